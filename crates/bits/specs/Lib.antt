@@ -1,0 +1,7 @@
+pub mod Refusals
+pub mod Bits
+pub mod Steps
+pub mod Half
+pub mod Codec
+pub mod Table
+pub mod Extensions

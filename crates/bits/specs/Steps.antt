@@ -1,0 +1,35 @@
+-- What reading one field takes, piece by piece, and what it comes to.
+use Prim.Native.Nat.{ℕ, _+_}
+use mathlib.Core.List.{List}
+use mathlib.Core.Bool.{true, false}
+use lib.Dec.{leb}
+use Rattle.bits.specs.declared.Cursor.{Cursor}
+use Rattle.bits.specs.declared.Field.{Field}
+use Rattle.bits.specs.declared.pieces.Piece.{Piece}
+use Rattle.bits.specs.Refusals.{pick, refusal, start}
+use Rattle.bits.specs.Bits.{bitsAt, bitCount, there}
+
+-- gives a value; refuses with a number; takes so many bits and goes on by their value; passes so many bits over and goes on
+pub data Steps : Type 0 where
+  gives : ℕ → Steps
+  refuses : ℕ → Steps
+  takes : ℕ → (ℕ → Steps) → Steps
+  passes : ℕ → Steps → Steps
+
+-- a field that begins at p is refused there, whichever part of it is at fault
+abbrev pub refusedAt : ℕ → ℕ → Field
+refusedAt number p = record { value = 0; next = record { at = p; fault = refusal number p } }
+
+-- the field that begins at p, having come to q; 4 where a piece needs bits past the end
+unfoldable pub run : Steps → List ℕ → ℕ → ℕ → Field
+run (gives v) s p q = record { value = v; next = start q }
+run (refuses number) s p q = refusedAt number p
+run (takes n rest) s p q = pick (there s q n) (run (rest (bitsAt s q n)) s p (q + n)) (refusedAt 4 p)
+run (passes n rest) s p q = pick (leb (q + n) (bitCount s)) (run rest s p (q + n)) (refusedAt 4 p)
+
+-- one piece of a field, if it is there
+unfoldable pub piece : List ℕ → ℕ → ℕ → Piece
+piece s q n =
+    pick (there s q n)
+    (record { there = true; value = bitsAt s q n; at = q + n })
+    (record { there = false; value = 0; at = q })

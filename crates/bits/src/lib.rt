@@ -1,0 +1,101 @@
+// The bit reader: fields of up to 32 bits, Bool, U32, U64, f16, padding, skips and the extensions bundle, each read at a cursor
+// that keeps the first fault. A function given a cursor with a fault reads nothing and hands it on, so a bundle is straight-line code.
+// Every function is total: a cursor past the end, a width over 32 and a long slice have an answer too.
+mod pieces;
+
+ghost use mathlib.Core.Path.{_≡_};
+ghost use mathlib.Core.Bool.{_&&_, _||_};
+ghost use Rattle.bits.specs.Refusals.{refusal, none, start};
+ghost use Rattle.bits.specs.Codec.{val};
+
+// Why something was refused, and at which bit. Number 0: nothing was.
+pub struct Refusal {
+    pub number: u32,
+    pub place: u64,
+}
+
+// A bit place, and the first fault on the way to it.
+pub struct Cursor {
+    pub at: u64,
+    pub fault: Refusal,
+}
+
+// A field of up to 32 bits that was read, and the cursor after it. A Bool is 0 or 1, an f16 its 16-bit pattern.
+pub struct Field {
+    pub value: u32,
+    pub next: Cursor,
+}
+
+// A field of up to 64 bits that was read.
+pub struct Wide {
+    pub value: u64,
+    pub next: Cursor,
+}
+
+// One choice of a U32: base + u(bits); a constant has no bits.
+pub struct Choice {
+    pub base: u32,
+    pub bits: u32,
+}
+
+// The four choices of a U32, by its selector.
+pub struct Choices {
+    pub d0: Choice,
+    pub d1: Choice,
+    pub d2: Choice,
+    pub d3: Choice,
+}
+
+// A number of bits in two halves: high * 2^64 + low.
+pub struct Sum {
+    pub high: u64,
+    pub low: u64,
+}
+
+pub fn refused(number: u32, place: u64) -> Refusal
+    ensures { λ r. ⌜ r ≡ refusal number place ⌝ }
+{
+    Refusal { number, place }
+}
+
+// Nothing was refused.
+pub fn accepted() -> Refusal
+    ensures { λ r. ⌜ r ≡ none ⌝ }
+{
+    Refusal {
+        number: 0,
+        place: 0,
+    }
+}
+
+// A cursor at a place, with no fault yet.
+pub fn begin(place: u64) -> Cursor
+    ensures { λ r. ⌜ r ≡ start place ⌝ }
+{
+    Cursor {
+        at: place,
+        fault: Refusal {
+            number: 0,
+            place: 0,
+        },
+    }
+}
+
+// A constant as a choice of a U32.
+pub fn constant(c: u32) -> Choice
+    ensures { λ r. ⌜ r ≡ val c ⌝ }
+{
+    Choice { base: c, bits: 0 }
+}
+
+pub fn both(a: bool, b: bool) -> bool
+    ensures { λ r. ⌜ r ≡ (a && b) ⌝ }
+{
+    if a { b } else { false }
+}
+
+pub fn either(a: bool, b: bool) -> bool
+    ensures { λ r. ⌜ r ≡ (a || b) ⌝ }
+{
+    if a { true } else { b }
+}
