@@ -7,9 +7,6 @@ use Rattle.bits.specs.Bits.{bitCount}
 use Rattle.bits.proofs.Bits.{there-by}
 use Rattle.bits.proofs.pieces.is_there.Statement.{statement}
 use Rattle.bits.proofs.pieces.is_there.Tie as tie
-use Rattle.bits.proofs.pieces.is_there.Reads as reads
-use Rattle.bits.proofs.pieces.is_there.Lts as lts
-use Rattle.bits.proofs.pieces.bit_count.Reads as bit-count-reads
 
 bit-count-requires : tie.Need-bit-count-requires
 bit-count-requires c κs = search needs
