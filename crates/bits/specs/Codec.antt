@@ -6,6 +6,7 @@ use lib.Dec.{leb, eqb}
 use lib.IntN.{ℤ, pos, negℤ}
 use Rattle.bits.specs.declared.Cursor.{Cursor}
 use Rattle.bits.specs.declared.Field.{Field}
+use Rattle.bits.specs.declared.Wide.{Wide}
 use Rattle.bits.specs.declared.Choice.{Choice}
 use Rattle.bits.specs.declared.Choices.{Choices}
 use Rattle.bits.specs.Refusals.{pick, clear}
@@ -72,6 +73,10 @@ steps (skip n) p = passes n (gives 0)
 -- the field where it is asked for and nothing was refused before it; else the default, and the cursor as it was
 unfoldable pub field : List ℕ → Bool → Codec → ℕ → Cursor → Field
 field s on k d c = pick (on && clear c) (run (steps k (c .at)) s (c .at) (c .at)) (record { value = d; next = c })
+
+-- a field of up to 64 bits
+abbrev pub wideOf : Field → Wide
+wideOf f = record { value = f .value; next = f .next }
 
 -- Signed: an even u means u / 2, an odd u means minus (u + 1) / 2.
 abbrev pub signed : ℕ → ℤ

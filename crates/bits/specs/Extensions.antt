@@ -7,12 +7,12 @@ use Rattle.bits.specs.Codec.{u64, skip}
 use Rattle.bits.specs.Table.{Table, ends, row, bind}
 
 -- the lengths that the mask's lowest bits ask for, count of them, added to a sum
-unfoldable pub lengths : {R : Type 0} → ℕ → ℕ → ℕ → Table R ℕ
+unfoldable pub lengths : ℕ → ℕ → ℕ → Table (Unit {0}) ℕ
 lengths zero mask sum = ends sum
 lengths (suc count) mask sum = row (eqb (mask % 2) 1) u64 0 (λ r. 0) λ n. lengths count (mask / 2) (sum + n)
 
 -- the bundle; what is handed on is how many bits were skipped
-unfoldable pub extensions : {R : Type 0} → Bool → Table R ℕ
+unfoldable pub extensions : Bool → Table (Unit {0}) ℕ
 extensions on =
     row on u64 0 (λ r. 0) λ mask.
     bind (lengths 64 mask 0) λ sum.

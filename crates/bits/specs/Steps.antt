@@ -17,8 +17,11 @@ pub data Steps : Type 0 where
   passes : ℕ → Steps → Steps
 
 -- a field that begins at p is refused there, whichever part of it is at fault
+abbrev pub stopped : ℕ → ℕ → Cursor
+stopped number p = record { at = p; fault = refusal number p }
+
 abbrev pub refusedAt : ℕ → ℕ → Field
-refusedAt number p = record { value = 0; next = record { at = p; fault = refusal number p } }
+refusedAt number p = record { value = 0; next = stopped number p }
 
 -- the field that begins at p, having come to q; 4 where a piece needs bits past the end
 unfoldable pub run : Steps → List ℕ → ℕ → ℕ → Field

@@ -1,12 +1,32 @@
 // The bit reader: fields of up to 32 bits, Bool, U32, U64, f16, padding, skips and the extensions bundle, each read at a cursor
 // that keeps the first fault. A function given a cursor with a fault reads nothing and hands it on, so a bundle is straight-line code.
 // Every function is total: a cursor past the end, a width over 32 and a long slice have an answer too.
+mod fields;
+mod halves;
+mod numbers;
 mod pieces;
+mod skips;
 
+pub use fields::read_bits;
+pub use fields::read_bits_if;
+pub use fields::read_bool;
+pub use fields::read_bool_if;
+pub use fields::zero_pad_to_byte;
+pub use halves::f16_to_f32;
+pub use halves::read_f16_if;
+pub use numbers::read_enum_if;
+pub use numbers::read_u32;
+pub use numbers::read_u32_if;
+pub use numbers::read_u64;
+pub use numbers::read_u64_if;
+pub use numbers::unpack_signed;
+pub use skips::read_extensions_if;
+pub use skips::skip_bits_if;
 ghost use mathlib.Core.Path.{_≡_};
 ghost use mathlib.Core.Bool.{_&&_, _||_};
 ghost use Rattle.bits.specs.Refusals.{refusal, none, start};
 ghost use Rattle.bits.specs.Codec.{val};
+ghost use Rattle.bits.specs.Table.{failed};
 
 // Why something was refused, and at which bit. Number 0: nothing was.
 pub struct Refusal {
@@ -86,6 +106,21 @@ pub fn constant(c: u32) -> Choice
     ensures { λ r. ⌜ r ≡ val c ⌝ }
 {
     Choice { base: c, bits: 0 }
+}
+
+// A refusal on what was read, so many bits back, unless there was one before.
+pub fn refuse_if(c: Cursor, bad: bool, number: u32, back: u64) -> Cursor
+    ensures { λ r. ⌜ r ≡ failed bad number back c ⌝ }
+{
+    if fields::idle(c, bad) {
+        return c;
+    }
+    let at = c.at;
+    let place = if back <= at { at - back } else { 0 };
+    Cursor {
+        at,
+        fault: Refusal { number, place },
+    }
 }
 
 pub fn both(a: bool, b: bool) -> bool

@@ -6,7 +6,7 @@ ghost use mathlib.Core.Path.{_≡_};
 ghost use Prim.Native.Nat.{_+_, _*_, _≤_, _<_};
 ghost use lib.ListN.{length};
 ghost use Rattle.bits.specs.Bits.{bitAt, bitsAt, bitCount, there};
-ghost use Rattle.bits.specs.Steps.{refusedAt, piece};
+ghost use Rattle.bits.specs.Steps.{stopped, refusedAt, piece};
 
 // So many bits of a field: whether they are there, their value, and the place after them.
 pub struct Piece {
@@ -91,6 +91,15 @@ pub fn take(s: &[u8], p: u64, n: u32) -> Piece
 }
 
 // A field that begins at p is refused there.
+pub fn stop(number: u32, p: u64) -> Cursor
+    ensures { λ r. ⌜ r ≡ stopped number p ⌝ }
+{
+    Cursor {
+        at: p,
+        fault: Refusal { number, place: p },
+    }
+}
+
 pub fn refused_at(number: u32, p: u64) -> Field
     ensures { λ r. ⌜ r ≡ refusedAt number p ⌝ }
 {

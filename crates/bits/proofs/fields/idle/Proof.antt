@@ -1,0 +1,13 @@
+-- `idle`: not asked for, or refused before.
+use borrow.Author.Needs.{needs}
+use Rattle.bits.proofs.fields.idle.Statement.{statement}
+use Rattle.bits.proofs.fields.idle.Tie as tie
+
+returns : tie.Need-returns
+returns c = rw (c .before .if1 .taken)
+
+returns-2 : tie.Need-returns-2
+returns-2 c = search needs
+
+pub idle-spec : {M : Type 1} → statement M
+idle-spec = tie.close (tie.spec returns returns-2)
