@@ -5,3 +5,4 @@ pub mod Signed
 pub mod Long
 pub mod Tables
 pub mod Half
+pub mod Reading
