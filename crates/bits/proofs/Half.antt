@@ -8,7 +8,7 @@ use lib.IntN.{pos}
 use lib.Dec.{T, leb, ltb, eqb, lit<, lit≤, le→leb, not-T}
 use lib.Bits.{bitAnd, bitOr, and-mask, and-le-r, or-shifted}
 use lib.Pow.{shl-exact, pow-add, pow-pos, pow-mono}
-use lib.Ieee.{Float, nan, inf, fin, Format, binary32, up, down, unlike, odd, round, mul, ofInt, ofFields, ofBits, inFloat, nanBits, low, emax, prec}
+use lib.Ieee.{Float, nan, inf, fin, Format, binary32, up, down, unlike, odd, round, mul, ofInt, ofFields, ofBits, inFloat, nanBits, isNan}
 use lib.Ieee.Bits.{nanBits-above}
 use lib.Ieee.Exact.{HasValue, odd-sign, round-exact}
 use lib.Ieee.Back.{round-whole}
@@ -153,3 +153,11 @@ half-exact h = by-exponent h (eqb (exponent h) 0) refl
 pub mantissa-fits : (m : ℕ) → m ≤ 2047 → T (inFloat binary32 (pos m))
 unfolding inFloat
 mantissa-fits m h = le→leb m (2 ^ 24) (omega arith)
+
+finite : (x : Float) (s : Bool) (a c : ℕ) → HasValue x s a c → T (not (isNan x))
+unfolding isNan
+finite (fin t m e) s a c v = tt
+
+-- it is a number
+pub half-finite : (h : ℕ) → T (not (isNan (half h)))
+half-finite h = finite (half h) (negative h) (scaled h) (2 ^ 24) (half-exact h)
