@@ -1,0 +1,3 @@
+pub mod Entries
+pub mod Marks
+pub mod Checked
