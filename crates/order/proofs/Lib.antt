@@ -1,3 +1,5 @@
 pub mod Entries
 pub mod Marks
 pub mod Checked
+pub mod Sums
+pub mod Reach
