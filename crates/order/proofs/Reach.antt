@@ -57,7 +57,7 @@ module _ (count : ℕ) (l : List ℕ) (o : isOrder count l ≡ true) where
   order-reaches k h =
       split (has k l) (λ t. t) (λ t.
       let less : sumTo count (λ i. pick (has i l) 1 0) < count =
-        sum-less count k (λ i. pick (has i l) 1 0) (λ i. mark-small (has i l)) h (rw t) in
+      sum-less count k (λ i. pick (has i l) 1 0) (λ i. mark-small (has i l)) h (rw t) in
       absurd (omega (arith, order-sum-marks (λ i. 1), sum-ones count)))
 
   -- by section or as sent, a sum is the same

@@ -73,11 +73,11 @@ unfolding has allBelow distinct sumTo
 sum-entries n f [] b d = sym (sum-zero n)
 sum-entries n f (x ∷ l) b d =
     let rest : sumTo (length l) (λ j. f (getD l j 0)) ≡ sumTo n (λ k. pick (has k l) (f k) 0) =
-      sum-entries n f l (and-right (ltb x n) (allBelow n l) b) (and-right (not (has x l)) (distinct l) d) in
+    sum-entries n f l (and-right (ltb x n) (allBelow n l) b) (and-right (not (has x l)) (distinct l) d) in
     let new : has x l ≡ false = not-true (has x l) (and-left (not (has x l)) (distinct l) d) in
     let more : sumTo n (λ k. pick (eqb x k || has k l) (f k) 0) ≡ sumTo n (λ k. pick (has k l) (f k) 0) + f x =
-      sum-point n x (f x) (λ k. pick (eqb x k || has k l) (f k) 0) (λ k. pick (has k l) (f k) 0)
-      (ltb-true x n (and-left (ltb x n) (allBelow n l) b))
-      (λ k apart. rw (ne-eqb x k (λ q. apart (sym q))))
-      (rw (eq-eqb x x refl, new) (omega arith)) in
+    sum-point n x (f x) (λ k. pick (eqb x k || has k l) (f k) 0) (λ k. pick (has k l) (f k) 0)
+    (ltb-true x n (and-left (ltb x n) (allBelow n l) b))
+    (λ k apart. rw (ne-eqb x k (λ q. apart (sym q))))
+    (rw (eq-eqb x x refl, new) (omega arith)) in
     omega (arith, sum-first (length l) (λ j. f (getD (x ∷ l) j 0)))

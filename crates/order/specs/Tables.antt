@@ -1,12 +1,11 @@
 -- The tables that an order gives: its inverse, the identity, and what a lent table holds after it was filled.
 use Prim.Native.Nat.{ℕ, zero, suc, min}
 use mathlib.Core.List.{List, [], _∷_, _++_}
-use mathlib.Core.Bool.{Bool, true, false}
-use lib.ListN.{length, getD, set, take, drop}
+use lib.ListN.{length, set, take, drop}
 use lib.Dec.{eqb, ltb}
 use Rattle.bits.specs.declared.Refusal.{Refusal}
-use Rattle.bits.specs.Refusals.{pick, refusal, none}
-use Rattle.order.specs.Order.{isOrder, checked}
+use Rattle.bits.specs.Refusals.{pick, refusal}
+use Rattle.order.specs.Order.{checked}
 
 -- f 0, f 1, .., f (n - 1)
 unfoldable pub tabulate : ℕ → (ℕ → ℕ) → List ℕ
@@ -18,10 +17,37 @@ unfoldable pub indexOf : ℕ → List ℕ → ℕ
 indexOf k [] = 0
 indexOf k (x ∷ l) = pick (eqb x k) 0 (suc (indexOf k l))
 
--- at sent number k stands the section j with order[j] = k
+-- the inverse: at sent number k stands the section j with order[j] = k
 unfoldable pub inverseOf : ℕ → List ℕ → List ℕ
 inverseOf count order = tabulate count (λ k. indexOf k order)
 
 -- both orders of a table that is not permuted
 unfoldable pub identity : ℕ → List ℕ
 identity count = tabulate count (λ k. k)
+
+-- only used places are written: the first words are the new ones, the words behind them stay
+unfoldable pub filled : List ℕ → List ℕ → List ℕ
+filled new table = new ++ drop (length new) table
+
+-- the words 0, 1, 2, .. up to count, as far as the table goes
+unfoldable pub identityAfter : ℕ → List ℕ → List ℕ
+identityAfter count table = filled (identity (min count (length table))) table
+
+-- the order's first count entries, as far as the table goes
+unfoldable pub orderAfter : ℕ → List ℕ → List ℕ → List ℕ
+orderAfter count order table = filled (take (length table) (take count order)) table
+
+-- the sections from j on, each written at its sent number; a sent number that the table hasn't is passed over
+unfoldable pub placed : ℕ → List ℕ → List ℕ → List ℕ
+placed j [] table = table
+placed j (x ∷ order) table = placed (suc j) order (set table x j)
+
+-- 10, then 3 where the table is shorter than count, then 13
+unfoldable pub inverted : ℕ → List ℕ → List ℕ → Refusal
+inverted count order table =
+    pick (ltb 65536 count) (refusal 10 0) (pick (ltb (length table) count) (refusal 3 0) (checked count order))
+
+-- accepted, the table's first count words are the inverse; refused, it is as it was
+unfoldable pub inverseAfter : ℕ → List ℕ → List ℕ → List ℕ
+inverseAfter count order table =
+    pick (eqb (inverted count order table .number) 0) (filled (inverseOf count order) table) table
