@@ -113,8 +113,8 @@ placed-inverse count l t o fits =
     let size : length (inverseOf count l) ≡ count = inverse-length count l in
     let d : distinct l ≡ true = order-distinct count l o in
     rw whole
-    (filled-by (inverseOf count l) t (placed 0 l t) (omega arith) (placed-length 0 l t)
-    (λ k h.
+    (filled-by (inverseOf count l) t (placed 0 l t) (placed-length 0 l t)
+    (λ k h in-table.
     let low : k < count = omega arith in
     placed-at 0 l t k d (omega arith) ∙ rw (order-reaches count l o k low, inverse-at count l k low) (omega arith))
     (λ k h in-table.

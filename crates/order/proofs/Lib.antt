@@ -5,3 +5,5 @@ pub mod Sums
 pub mod Reach
 pub mod Tables
 pub mod Inverse
+pub mod Fill
+pub mod Inverting

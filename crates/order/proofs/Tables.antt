@@ -2,13 +2,12 @@
 use Prim.Native.Nat.{ℕ, zero, suc, _+_, _-_, _≤_, _<_, min}
 use native.Mathlib.Omega.{arith}
 use native.Mathlib.Nat.{not-suc-le-zero, le-of-suc-le-suc}
-use native.Mathlib.Numerals.{add-one}
-use native.Mathlib.Decide.{decLe}
+use native.Mathlib.Decide.{decLe, ℕ-discrete}
 use mathlib.Core.Path.{_≡_, refl, sym, _∙_, ap}
 use mathlib.Core.Logic.{by-cases}
 use mathlib.Core.List.{List, [], _∷_, _++_}
-use lib.ListN.{length, getD, set, take, drop, length-append, length-drop, List·getD-append}
-use lib.Seq.{getD-append-add, getD-drop, set-at, drop-cons, ext-getD, append-snoc}
+use lib.ListN.{length, getD, set, take, drop, length-append, length-take, length-drop, length-set, List·getD-append}
+use lib.Seq.{getD-append-add, getD-drop, getD-take, getD-set-same, getD-set-other, take-all, take-nil, length-take-le, ext-getD}
 use Rattle.order.specs.Tables.{tabulate, filled}
 
 -- two tables of count words that agree at each
@@ -26,45 +25,82 @@ getD-tabulate zero f k h = absurd (not-suc-le-zero h)
 getD-tabulate (suc n) f zero h = refl
 getD-tabulate (suc n) f (suc k) h = getD-tabulate n (λ i. f (suc i)) k (le-of-suc-le-suc h)
 
--- the last word apart, instead of the first
-tabulate-last : (n : ℕ) (f : ℕ → ℕ) → tabulate (suc n) f ≡ tabulate n f ++ (f n ∷ [])
-unfolding tabulate
-tabulate-last zero f = refl
-tabulate-last (suc n) f = ap {B = List ℕ} (λ r. f 0 ∷ r) (tabulate-last n (λ k. f (suc k)))
-
-pub tabulate-more : (n : ℕ) (f : ℕ → ℕ) → tabulate (n + 1) f ≡ tabulate n f ++ (f n ∷ [])
-tabulate-more n f = rw add-one (tabulate-last n f)
-
 module _ (new table : List ℕ) where
-  pub filled-at : (i : ℕ) → i < length new → getD (filled new table) i 0 ≡ getD new i 0
+  pub filled-length : length (filled new table) ≡ length table
   unfolding filled
-  filled-at i h = List·getD-append new (drop (length new) table) 0 i h
+  filled-length =
+      omega (
+        arith,
+        length-append (take (length table) new) (drop (length new) table),
+        length-take (length table) new,
+        length-drop (length new) table,
+      )
 
-  pub filled-behind : (i : ℕ) → length new ≤ i → getD (filled new table) i 0 ≡ getD table i 0
+  pub filled-at : (i : ℕ) → i < length new → i < length table → getD (filled new table) i 0 ≡ getD new i 0
   unfolding filled
-  filled-behind i h =
+  filled-at i h k =
+      List·getD-append (take (length table) new) (drop (length new) table) 0 i (omega (arith, length-take (length table) new))
+      ∙ getD-take (length table) new i 0 k
+
+  pub filled-behind : (i : ℕ) → length new ≤ i → i < length table → getD (filled new table) i 0 ≡ getD table i 0
+  unfolding filled
+  filled-behind i h k =
       let split : i ≡ length new + (i - length new) = omega arith in
-      ap (λ (k : ℕ). getD (new ++ drop (length new) table) k 0) split
+      rw (take-all (length table) new (omega arith))
+      (ap (λ (k : ℕ). getD (new ++ drop (length new) table) k 0) split
       ∙ getD-append-add new (drop (length new) table) (i - length new) 0
       ∙ getD-drop (length new) table (i - length new) 0
-      ∙ ap (λ (k : ℕ). getD table k 0) (sym split)
-
-  pub filled-length : length new ≤ length table → length (filled new table) ≡ length table
-  unfolding filled
-  filled-length h = omega (arith, length-append new (drop (length new) table), length-drop (length new) table)
+      ∙ ap (λ (k : ℕ). getD table k 0) (sym split))
 
   -- what agrees with the new words in front and with the old ones behind
-  pub filled-by : (t : List ℕ) → length new ≤ length table → length t ≡ length table → ((i : ℕ) → i < length new → getD t i 0 ≡ getD new i 0)
+  pub filled-by : (t : List ℕ) → length t ≡ length table → ((i : ℕ) → i < length new → i < length table → getD t i 0 ≡ getD new i 0)
       → ((i : ℕ) → length new ≤ i → i < length table → getD t i 0 ≡ getD table i 0) → t ≡ filled new table
-  filled-by t fits len front behind =
-      same-words (length table) t (filled new table) len (filled-length fits) (λ i h.
+  filled-by t len front behind =
+      same-words (length table) t (filled new table) len filled-length (λ i h.
       by-cases (decLe (suc i) (length new))
-      (λ y. front i y ∙ sym (filled-at i y))
-      (λ y. behind i (omega (arith, y)) h ∙ sym (filled-behind i (omega (arith, y)))))
+      (λ y. front i y h ∙ sym (filled-at i y h))
+      (λ y. behind i (omega (arith, y)) h ∙ sym (filled-behind i (omega (arith, y)) h)))
 
-  -- one word more
-  pub filled-more : (v : ℕ) → length new < length table → set (filled new table) (length new) v ≡ filled (new ++ (v ∷ [])) table
-  unfolding filled
-  filled-more v h =
-      let size : length (new ++ (v ∷ [])) ≡ suc (length new) = omega (arith, length-append new (v ∷ [])) in
-      rw (size, drop-cons table (length new) 0 h) (set-at new (getD table (length new) 0) (drop (suc (length new)) table) v (length new) refl ∙ sym (append-snoc new v (drop (suc (length new)) table)))
+-- a table in which the first i of the words have been written
+pub record Written (words before table : List ℕ) (i : ℕ) : Type 0 where
+  pub within : i ≤ length words
+  pub room : i ≤ length before
+  pub size : length table ≡ length before
+  pub content : table ≡ filled (take i words) before
+
+pub written-none : (words before : List ℕ) → Written words before before 0
+unfolding filled
+written-none words before =
+    record { within = omega arith; room = omega arith; size = refl; content = sym (ap (λ (l : List ℕ). l ++ before) (take-nil (length before))) }
+
+module _ (words before table : List ℕ) (i : ℕ) (w : Written words before table i) where
+  pub written-more : (v : ℕ) → i < length words → i < length table → v ≡ getD words i 0 → Written words before (set table i v) (i + 1)
+  written-more v h k e =
+      let taken : length (take i words) ≡ i = length-take-le i words (w .within) in
+      let more : length (take (i + 1) words) ≡ i + 1 = length-take-le (i + 1) words (omega arith) in
+      let same : getD (set table i v) i 0 ≡ v = getD-set-same table i v 0 k in
+      let other : (j : ℕ) → (j ≡ i → ⊥) → getD (set table i v) j 0 ≡ getD (filled (take i words) before) j 0 =
+      λ j q. getD-set-other table i j v 0 q ∙ ap (λ (t : List ℕ). getD t j 0) (w .content) in
+      let size : length (set table i v) ≡ length before = length-set table i v ∙ w .size in
+      record {
+        within = omega arith;
+        room = omega (arith, w .size);
+        size = size;
+        content =
+            filled-by (take (i + 1) words) before (set table i v) size
+            (λ j hj kj.
+            by-cases (ℕ-discrete j i)
+            (λ q. ap (λ (n : ℕ). getD (set table i v) n 0) q ∙ same ∙ e ∙ sym (getD-take (i + 1) words i 0 (omega arith)) ∙ ap (λ (n : ℕ). getD (take (i + 1) words) n 0) (sym q))
+            (λ q.
+            other j q ∙ filled-at (take i words) before j (omega (arith, q)) kj ∙ getD-take i words j 0 (omega (arith, q)) ∙ sym (getD-take (i + 1) words j 0 (omega arith))))
+            (λ j hj kj. other j (λ q. omega arith) ∙ filled-behind (take i words) before j (omega arith) kj);
+      }
+
+  -- all are written, or the table is full
+  pub written-all : min (length words) (length before) ≤ i → table ≡ filled words before
+  written-all h =
+      let taken : length (take i words) ≡ i = length-take-le i words (w .within) in
+      w .content
+      ∙ filled-by words before (filled (take i words) before) (filled-length (take i words) before)
+      (λ j hj kj. filled-at (take i words) before j (omega arith) kj ∙ getD-take i words j 0 (omega arith))
+      (λ j hj kj. filled-behind (take i words) before j (omega arith) kj)

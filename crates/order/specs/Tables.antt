@@ -1,5 +1,5 @@
 -- The tables that an order gives: its inverse, the identity, and what a lent table holds after it was filled.
-use Prim.Native.Nat.{ℕ, zero, suc, min}
+use Prim.Native.Nat.{ℕ, zero, suc}
 use mathlib.Core.List.{List, [], _∷_, _++_}
 use lib.ListN.{length, set, take, drop}
 use lib.Dec.{eqb, ltb}
@@ -25,17 +25,9 @@ inverseOf count order = tabulate count (λ k. indexOf k order)
 unfoldable pub identity : ℕ → List ℕ
 identity count = tabulate count (λ k. k)
 
--- only used places are written: the first words are the new ones, the words behind them stay
+-- only used places are written: the first words are the new ones, as far as the table goes; the words behind them stay
 unfoldable pub filled : List ℕ → List ℕ → List ℕ
-filled new table = new ++ drop (length new) table
-
--- the words 0, 1, 2, .. up to count, as far as the table goes
-unfoldable pub identityAfter : ℕ → List ℕ → List ℕ
-identityAfter count table = filled (identity (min count (length table))) table
-
--- the order's first count entries, as far as the table goes
-unfoldable pub orderAfter : ℕ → List ℕ → List ℕ → List ℕ
-orderAfter count order table = filled (take (length table) (take count order)) table
+filled new table = take (length table) new ++ drop (length new) table
 
 -- the sections from j on, each written at its sent number; a sent number that the table hasn't is passed over
 unfoldable pub placed : ℕ → List ℕ → List ℕ → List ℕ

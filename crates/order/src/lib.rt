@@ -3,8 +3,9 @@
 ghost use mathlib.Core.Path.{_≡_};
 ghost use mathlib.Core.Bool.{_&&_};
 ghost use Prim.Native.Nat.{ℕ, _≤_};
-ghost use lib.ListN.{length};
+ghost use lib.ListN.{length, set, take};
 ghost use Rattle.order.specs.Order.{allBelow, distinct, isOrder, checked, Unmarked};
+ghost use Rattle.order.specs.Tables.{identity, filled, placed, inverted, inverseAfter};
 
 // The number of a section in the frame's own sequence, as in the Rust's `TocGroup`.
 pub struct SectionNumber(pub u32);
@@ -57,4 +58,82 @@ pub fn check_order(order: &[u32], count: u32) -> bits::Refusal
     } else {
         bits::refused(13, 0)
     }
+}
+
+// The word at an index becomes v, if the table has it.
+fn put(table: &mut [u32], at: usize, v: u32)
+    ensures { λ _. ⌜ now (table .exit) ≡ set (now (table .entry)) at v ⌝ }
+{
+    if at < table.len() {
+        table[at] = v;
+    }
+}
+
+// The first count words become 0, 1, 2, .., as far as the table goes: both orders of a table that is not permuted.
+pub fn identity_into(table: &mut [u32], count: u32)
+    ensures { λ _. ⌜ now (table .exit) ≡ filled (identity count) (now (table .entry)) ⌝ }
+{
+    let mut j: u32 = 0;
+    while j < count {
+        let i = j as usize;
+        if table.len() <= i {
+            return;
+        }
+        table[i] = j;
+        j += 1;
+    }
+}
+
+// The order's first count entries become the table's first words, as far as the table goes.
+pub fn order_into(order: &[u32], count: u32, table: &mut [u32])
+    ensures { λ _. ⌜ now (table .exit) ≡ filled (take count (now (order .entry))) (now (table .entry)) ⌝ }
+{
+    let n = count as usize;
+    let mut i: usize = 0;
+    while i < n {
+        if order.len() <= i {
+            return;
+        }
+        if table.len() <= i {
+            return;
+        }
+        table[i] = order[i];
+        i += 1;
+    }
+}
+
+// Each of the order's first count sections is written at its sent number: for an order that was checked, the inverse.
+pub fn inverse_into(order: &[u32], count: u32, inverse: &mut [u32])
+    ensures { λ _. ⌜ now (inverse .exit) ≡ placed 0 (take count (now (order .entry))) (now (inverse .entry)) ⌝ }
+{
+    let mut j: u32 = 0;
+    while j < count {
+        let i = j as usize;
+        if order.len() <= i {
+            return;
+        }
+        put(inverse, order[i] as usize, j);
+        j += 1;
+    }
+}
+
+// The inverse of a lent order: 10, then 3 where the lent table is shorter than count, then 13; refused, the table stays as it was.
+pub fn invert(order: &[u32], count: u32, inverse: &mut [u32]) -> bits::Refusal
+    ensures { λ r. ⌜
+        (r ≡ inverted count (now (order .entry)) (now (inverse .entry)))
+        × (now (inverse .exit) ≡ inverseAfter count (now (order .entry)) (now (inverse .entry)))
+        ⌝ }
+{
+    if 65536 < count {
+        return bits::refused(10, 0);
+    }
+    if inverse.len() < count as usize {
+        return bits::refused(3, 0);
+    }
+    let refusal = check_order(order, count);
+    if refusal.number != 0 {
+        return refusal;
+    }
+    inverse_into(order, count, inverse);
+    refusal
 }
