@@ -13,6 +13,9 @@ use Rattle.bits.proofs.Bits.{and-left, and-right}
 use Rattle.order.specs.Order.{allBelow, distinct, isOrder, checked, Unmarked}
 use Rattle.order.proofs.Entries.{split, and-both}
 
+abbrev pub number : Refusal → ℕ
+number r = r .number
+
 pub unmarked : Unmarked (replicate 65536 0)
 unmarked = record { size = length-replicate {A = ℕ} 65536 0; clear = λ k h. getD-replicate {A = ℕ} 65536 k 0 0 h }
 
@@ -41,9 +44,9 @@ module _ (count : ℕ) (l : List ℕ) where
   pub accepted : checked count l .number ≡ 0 → (count ≤ 65536) × (isOrder count l ≡ true)
   accepted z =
       split (ltb 65536 count)
-      (λ t. absurd (omega (arith, ap (λ (r : Refusal). r .number) (checked-many (ltb-true 65536 count t)))))
+      (λ t. absurd (omega (arith, ap number (checked-many (ltb-true 65536 count t)))))
       (λ t.
       let small : count ≤ 65536 = ltb-false 65536 count t in
       split (isOrder count l)
       (λ o. (small, o))
-      (λ o. absurd (omega (arith, ap (λ (r : Refusal). r .number) (checked-bad small o)))))
+      (λ o. absurd (omega (arith, ap number (checked-bad small o)))))

@@ -9,11 +9,8 @@ use Rattle.bits.specs.declared.Refusal.{Refusal}
 use Rattle.bits.specs.Refusals.{refusal}
 use Rattle.order.specs.Order.{checked}
 use Rattle.order.specs.Tables.{placed, inverted, inverseAfter}
-use Rattle.order.proofs.Checked.{accepted}
+use Rattle.order.proofs.Checked.{number, accepted}
 use Rattle.order.proofs.Inverse.{placed-inverse}
-
-number : Refusal → ℕ
-number r = r .number
 
 module _ (count : ℕ) (order table : List ℕ) where
   inverted-checked : count ≤ 65536 → count ≤ length table → checked count order ≡ inverted count order table
@@ -22,16 +19,16 @@ module _ (count : ℕ) (order table : List ℕ) where
 
   kept : (r : Refusal) → r ≡ inverted count order table → (r .number ≡ 0 → ⊥)
       → (r ≡ inverted count order table) × (table ≡ inverseAfter count order table)
-  unfolding inverseAfter number
+  unfolding inverseAfter
   kept r e h = (e, rw (ne-eqb (inverted count order table .number) 0 (λ z. h (ap number e ∙ z))))
 
   pub invert-many : (r : Refusal) → r ≡ refusal 10 0 → 65536 < count → (r ≡ inverted count order table) × (table ≡ inverseAfter count order table)
-  unfolding inverted number
+  unfolding inverted
   invert-many r e h = kept r (e ∙ rw (lt-ltb 65536 count h)) (λ z. omega (arith, ap number e))
 
   pub invert-short : (r : Refusal) → r ≡ refusal 3 0 → count ≤ 65536 → length table < count
       → (r ≡ inverted count order table) × (table ≡ inverseAfter count order table)
-  unfolding inverted number
+  unfolding inverted
   invert-short r e small h = kept r (e ∙ rw (le-ltb 65536 count small, lt-ltb (length table) count h)) (λ z. omega (arith, ap number e))
 
   pub invert-bad : (r : Refusal) → r ≡ checked count order → count ≤ 65536 → count ≤ length table → (r .number ≡ 0 → ⊥)
@@ -40,7 +37,7 @@ module _ (count : ℕ) (order table : List ℕ) where
 
   pub invert-done : (r : Refusal) (after : List ℕ) → r ≡ checked count order → count ≤ 65536 → count ≤ length table → r .number ≡ 0
       → after ≡ placed 0 (take count order) table → (r ≡ inverted count order table) × (after ≡ inverseAfter count order table)
-  unfolding inverseAfter number
+  unfolding inverseAfter
   invert-done r after e small fits z p =
       let same : r ≡ inverted count order table = e ∙ inverted-checked small fits in
       let good = accepted count order (sym (ap number e) ∙ z) in (

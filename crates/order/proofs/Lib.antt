@@ -7,3 +7,4 @@ pub mod Tables
 pub mod Inverse
 pub mod Fill
 pub mod Inverting
+pub mod Numbers

@@ -6,12 +6,31 @@ ghost use Prim.Native.Nat.{ℕ, _≤_};
 ghost use lib.ListN.{length, set, take};
 ghost use Rattle.order.specs.Order.{allBelow, distinct, isOrder, checked, Unmarked};
 ghost use Rattle.order.specs.Tables.{identity, filled, placed, inverted, inverseAfter};
+ghost use Rattle.order.specs.Numbers.{entryAt, sentOf, sectionOf};
 
 // The number of a section in the frame's own sequence, as in the Rust's `TocGroup`.
 pub struct SectionNumber(pub u32);
 
 // The number of a section in the sequence in which it is sent.
 pub struct SentNumber(pub u32);
+
+// A word of an order table, or why there is none.
+struct Entry {
+    word: u32,
+    refusal: bits::Refusal,
+}
+
+// A section's sent number, or why there is none.
+pub struct SentAnswer {
+    pub sent: SentNumber,
+    pub refusal: bits::Refusal,
+}
+
+// The section of a sent number, or why there is none.
+pub struct SectionAnswer {
+    pub section: SectionNumber,
+    pub refusal: bits::Refusal,
+}
 
 // Whether every entry is below n and none occurs twice, by a mark for each number that has occurred: one walk.
 fn mark_all(order: &[u32], n: usize, marks: &mut [u8; 65536]) -> bool
@@ -136,4 +155,49 @@ pub fn invert(order: &[u32], count: u32, inverse: &mut [u32]) -> bits::Refusal
     }
     inverse_into(order, count, inverse);
     refusal
+}
+
+// A word of an order table. Document 01 has every lent order judged whole, so this walks the table once: it takes no constant time.
+fn look(table: &[u32], count: u32, index: u32) -> Entry
+    ensures { λ r. ⌜ r ≡ entryAt (now (table .entry)) count index ⌝ }
+{
+    let refusal = check_order(table, count);
+    if refusal.number != 0 {
+        return Entry { word: 0, refusal };
+    }
+    if count <= index {
+        return Entry {
+            word: 0,
+            refusal: bits::refused(14, 0),
+        };
+    }
+    let i = index as usize;
+    Entry {
+        word: table[i],
+        refusal,
+    }
+}
+
+// From a section number to its sent number, through the order: 10, 13, then 14 where the frame has no such section.
+pub fn sent_of(order: &[u32], count: u32, section: SectionNumber) -> SentAnswer
+    ensures { λ r. ⌜ r ≡ sentOf (now (order .entry)) count section ⌝ }
+{
+    let e = look(order, count, section.0);
+    let refusal = e.refusal;
+    SentAnswer {
+        sent: SentNumber(e.word),
+        refusal,
+    }
+}
+
+// From a sent number to its section number, through the inverse: 10, 13, then 14 where nothing has that sent number.
+pub fn section_of(inverse: &[u32], count: u32, sent: SentNumber) -> SectionAnswer
+    ensures { λ r. ⌜ r ≡ sectionOf (now (inverse .entry)) count sent ⌝ }
+{
+    let e = look(inverse, count, sent.0);
+    let refusal = e.refusal;
+    SectionAnswer {
+        section: SectionNumber(e.word),
+        refusal,
+    }
 }
