@@ -1,5 +1,6 @@
-// Orders of sections, document 01's "Sections": order[section] = sent number, its inverse[sent number] = section. What a lent order must
-// be, its inverse, and the two kinds of number, which only these two tables turn into one another.
+// Orders of sections, document 01's "Sections": order[section] = sent number (the Rust's `original_to_bitstream`), and its
+// inverse[sent number] = section (`bitstream_to_original`). What a lent order must be, its inverse, and the two kinds of number, which only
+// these two tables turn into one another.
 ghost use mathlib.Core.Path.{_≡_};
 ghost use mathlib.Core.Bool.{_&&_};
 ghost use Prim.Native.Nat.{ℕ, _≤_};
@@ -8,7 +9,7 @@ ghost use Rattle.order.specs.Order.{allBelow, distinct, isOrder, checked
 ghost use Rattle.order.specs.Tables.{identity, filled, placed, inverted, inverseAfter};
 ghost use Rattle.order.specs.Numbers.{entryAt, sentOf, sectionOf};
 
-// The number of a section in the frame's own sequence, as in the Rust's `TocGroup`.
+// The number of a section in the frame's own sequence: LfGlobal, LfGroups, HfGlobal, then for each pass its groups.
 pub struct SectionNumber(pub u32);
 
 // The number of a section in the sequence in which it is sent.

@@ -1,4 +1,5 @@
 -- `look`: the table is judged, then the index.
+use native.Mathlib.Omega.{arith}
 use Rattle.order.proofs.Numbers.{look-bad, look-past, look-inside, look-found}
 use borrow.Author.Needs.{needs}
 use Rattle.order.proofs.look.Statement.{statement}
@@ -15,7 +16,7 @@ refused-requires c κs = search needs
 
 returns-2 : tie.Need-returns-2
 returns-2 c =
-    look-past (c .before .before .before .before .before .before .args .table .now) _ _ _ _ (c .before .before .before .before .check-order .ensures) (c .before .before .if1 .left) (c .before .if2 .taken) (c .refused .ensures)
+    look-past (c .before .before .before .before .before .before .args .table .now) _ _ _ _ (c .before .before .before .before .check-order .ensures) (c .before .before .if1 .left) (omega arith) (c .refused .ensures)
 
 mul-t8 : tie.Need-mul-t8
 mul-t8 c = search needs

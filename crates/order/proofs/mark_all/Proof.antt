@@ -25,7 +25,7 @@ cast-k : tie.Need-cast-k Inv-loop μ-loop
 cast-k c = omega (arith, c .shared-slice-known .given (c .before .before .loop .i))
 
 returns : tie.Need-returns Inv-loop μ-loop
-returns c = too-large _ _ (c .before .before .before .before .pre .0) _ (c .before .before .loop-test .taken) (c .if1 .taken)
+returns c = too-large _ _ (c .before .before .before .before .pre .0) _ (c .before .before .loop-test .taken) (omega arith)
 
 element-copy-out-if2 : tie.Need-element-copy-out-if2 Inv-loop μ-loop
 element-copy-out-if2 c = search needs
