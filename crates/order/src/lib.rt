@@ -93,14 +93,14 @@ fn put(table: &mut [u32], at: usize, v: u32)
 pub fn identity_into(table: &mut [u32], count: u32)
     ensures { λ _. ⌜ now (table .exit) ≡ filled (identity count) (now (table .entry)) ⌝ }
 {
-    let mut j: u32 = 0;
-    while j < count {
-        let i = j as usize;
+    let mut k: u32 = 0;
+    while k < count {
+        let i = k as usize;
         if table.len() <= i {
             return;
         }
-        table[i] = j;
-        j += 1;
+        table[i] = k;
+        k += 1;
     }
 }
 
@@ -108,9 +108,9 @@ pub fn identity_into(table: &mut [u32], count: u32)
 pub fn order_into(order: &[u32], count: u32, table: &mut [u32])
     ensures { λ _. ⌜ now (table .exit) ≡ filled (take count (now (order .entry))) (now (table .entry)) ⌝ }
 {
-    let n = count as usize;
+    let end = count as usize;
     let mut i: usize = 0;
-    while i < n {
+    while i < end {
         if order.len() <= i {
             return;
         }

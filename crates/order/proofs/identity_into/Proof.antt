@@ -9,10 +9,10 @@ use Rattle.order.proofs.identity_into.Statement.{statement}
 use Rattle.order.proofs.identity_into.Tie as tie
 
 abbrev Inv-loop : tie.InvT-loop
-Inv-loop table₀ count j₀ table j = Written (identity count) table₀ table j
+Inv-loop table₀ count k₀ table k = Written (identity count) table₀ table k
 
 abbrev μ-loop : tie.MeasureT-loop
-μ-loop table₀ count j₀ table j = count - j
+μ-loop table₀ count k₀ table k = count - k
 
 loop-holds : tie.Need-loop-holds Inv-loop μ-loop
 loop-holds c = written-none (identity (c .args .count)) (c .args .table .now)
@@ -32,8 +32,8 @@ mul-table c = search needs
 slice-write-table : tie.Need-slice-write-table Inv-loop μ-loop
 slice-write-table c = search needs
 
-add-j : tie.Need-add-j Inv-loop μ-loop
-add-j c = search needs
+add-k : tie.Need-add-k Inv-loop μ-loop
+add-k c = search needs
 
 loop-less : tie.Need-loop-less Inv-loop μ-loop
 loop-less c = search needs
@@ -59,7 +59,7 @@ identity-into-spec =
     returns
     mul-table
     slice-write-table
-    add-j
+    add-k
     loop-less
     loop-again
     same-length-2

@@ -9,10 +9,10 @@ use Rattle.order.proofs.order_into.Statement.{statement}
 use Rattle.order.proofs.order_into.Tie as tie
 
 abbrev Inv-loop : tie.InvT-loop
-Inv-loop order count table₀ n i₀ table i = Written (take count order) table₀ table i
+Inv-loop order count table₀ end i₀ table i = Written (take count order) table₀ table i
 
 abbrev μ-loop : tie.MeasureT-loop
-μ-loop order count table₀ n i₀ table i = n - i
+μ-loop order count table₀ end i₀ table i = end - i
 
 loop-holds : tie.Need-loop-holds Inv-loop μ-loop
 loop-holds c = written-none (take (c .args .count) (c .args .order .now)) (c .args .table .now)
