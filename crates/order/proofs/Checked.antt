@@ -1,17 +1,16 @@
 -- Laws of the check: the parts of an order, which refusal each way of the check gives, and what an acceptance says.
 use Prim.Native.Nat.{ℕ, _≤_, _<_}
 use native.Mathlib.Omega.{arith}
-use mathlib.Core.Path.{_≡_, refl, sym, _∙_, ap}
+use mathlib.Core.Path.{_≡_, ap}
 use mathlib.Core.List.{List}
-use mathlib.Core.Bool.{Bool, true, false, _&&_}
-use lib.ListN.{length, getD, replicate, length-replicate, getD-replicate}
-use lib.Dec.{eqb, ltb}
-use borrow.Author.Tests.{lt-ltb, le-ltb, ltb-true, ltb-false, eq-eqb, ne-eqb, eqb-true}
+use mathlib.Core.Bool.{true, false, _&&_}
+use lib.ListN.{length, replicate, length-replicate, getD-replicate}
+use lib.Dec.{ltb}
+use borrow.Author.Tests.{lt-ltb, le-ltb, ltb-true, ltb-false, eq-eqb, ne-eqb}
 use Rattle.bits.specs.declared.Refusal.{Refusal}
-use Rattle.bits.specs.Refusals.{pick, refusal, none}
-use Rattle.bits.proofs.Bits.{and-left, and-right}
+use Rattle.bits.specs.Refusals.{refusal, none}
 use Rattle.order.specs.Order.{allBelow, distinct, isOrder, checked, Unmarked}
-use Rattle.order.proofs.Entries.{split, and-both}
+use Rattle.order.proofs.Entries.{split}
 
 abbrev pub number : Refusal → ℕ
 number r = r .number

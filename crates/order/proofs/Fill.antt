@@ -1,12 +1,11 @@
 -- Laws of the walks that fill a lent table: what is written after so many turns, one turn more, and the end.
-use Prim.Native.Nat.{ℕ, zero, suc, _+_, _≤_, _<_, min}
+use Prim.Native.Nat.{ℕ, _+_, _≤_, _<_, min}
 use native.Mathlib.Omega.{arith}
-use native.Mathlib.Numerals.{add-one}
-use mathlib.Core.Path.{_≡_, refl, sym, _∙_, ap}
-use mathlib.Core.List.{List, [], _∷_}
-use lib.ListN.{length, getD, set, take, drop, length-take, length-set, drop-of-length-le}
-use lib.Seq.{drop-cons, getD-take}
-use Rattle.order.specs.Tables.{identity, filled, placed}
+use mathlib.Core.Path.{_≡_, sym}
+use mathlib.Core.List.{List}
+use lib.ListN.{length, getD, set, take, length-take}
+use lib.Seq.{getD-take}
+use Rattle.order.specs.Tables.{identity, filled}
 use Rattle.order.proofs.Tables.{Written, written-more, written-all}
 use Rattle.order.proofs.Inverse.{identity-length, identity-at}
 
@@ -26,29 +25,3 @@ module _ (order : List ℕ) (count : ℕ) (before table : List ℕ) (i : ℕ) (w
 
   pub copied-all : min count (min (length order) (length before)) ≤ i → table ≡ filled (take count order) before
   copied-all h = written-all (take count order) before table i w (omega (arith, length-take count order))
-
--- the sections that are left, placed into the table as it is, make what all make of the table as it was
-pub record Placing (order before table : List ℕ) (j : ℕ) : Type 0 where
-  pub size : length table ≡ length before
-  pub rest : placed j (drop j order) table ≡ placed 0 order before
-
-pub placing-none : (order before : List ℕ) → Placing order before before 0
-placing-none order before = record { size = refl; rest = refl }
-
-module _ (order : List ℕ) (count : ℕ) (before table : List ℕ) (j : ℕ) (p : Placing (take count order) before table j) where
-  pub placing-more : (next : List ℕ) → j < count → j < length order → next ≡ set table (getD order j 0) j → Placing (take count order) before next (j + 1)
-  unfolding placed
-  placing-more next h k e =
-      let x : ℕ = getD order j 0 in
-      let here : drop j (take count order) ≡ x ∷ drop (j + 1) (take count order) =
-      rw (add-one, ← getD-take count order j 0 h) (drop-cons (take count order) j 0 (omega (arith, length-take count order))) in
-      record {
-        size = ap length e ∙ length-set table x j ∙ p .size;
-        rest = rw (e, add-one j) (ap (λ (l : List ℕ). placed j l table) (sym (rw add-one at here)) ∙ p .rest);
-      }
-
-  pub placing-all : min count (length order) ≤ j → table ≡ placed 0 (take count order) before
-  unfolding placed
-  placing-all h =
-      let none : drop j (take count order) ≡ [] = drop-of-length-le (take count order) {i = j} (omega (arith, length-take count order)) in
-      ap (λ (l : List ℕ). placed j l table) (sym none) ∙ p .rest

@@ -1,7 +1,7 @@
 -- Laws of inverting into a lent table: a refusal keeps the table, an acceptance leaves the inverse in front.
 use Prim.Native.Nat.{ℕ, _≤_, _<_}
 use native.Mathlib.Omega.{arith}
-use mathlib.Core.Path.{_≡_, refl, sym, _∙_, ap}
+use mathlib.Core.Path.{_≡_, sym, _∙_, ap}
 use mathlib.Core.List.{List}
 use lib.ListN.{length, take}
 use borrow.Author.Tests.{lt-ltb, le-ltb, eq-eqb, ne-eqb}
@@ -10,7 +10,7 @@ use Rattle.bits.specs.Refusals.{refusal}
 use Rattle.order.specs.Order.{checked}
 use Rattle.order.specs.Tables.{placed, inverted, inverseAfter}
 use Rattle.order.proofs.Checked.{number, accepted}
-use Rattle.order.proofs.Inverse.{placed-inverse}
+use Rattle.order.proofs.Placed.{placed-inverse}
 
 module _ (count : ℕ) (order table : List ℕ) where
   inverted-checked : count ≤ 65536 → count ≤ length table → checked count order ≡ inverted count order table
@@ -36,7 +36,7 @@ module _ (count : ℕ) (order table : List ℕ) where
   invert-bad r e small fits h = kept r (e ∙ inverted-checked small fits) h
 
   pub invert-done : (r : Refusal) (after : List ℕ) → r ≡ checked count order → count ≤ 65536 → count ≤ length table → r .number ≡ 0
-      → after ≡ placed 0 (take count order) table → (r ≡ inverted count order table) × (after ≡ inverseAfter count order table)
+      → after ≡ placed (take count order) table → (r ≡ inverted count order table) × (after ≡ inverseAfter count order table)
   unfolding inverseAfter
   invert-done r after e small fits z p =
       let same : r ≡ inverted count order table = e ∙ inverted-checked small fits in

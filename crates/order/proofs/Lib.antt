@@ -5,6 +5,7 @@ pub mod Sums
 pub mod Reach
 pub mod Tables
 pub mod Inverse
+pub mod Placed
 pub mod Fill
 pub mod Inverting
 pub mod Numbers

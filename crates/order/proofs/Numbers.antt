@@ -18,7 +18,7 @@ use Rattle.order.specs.Tables.{inverseOf}
 use Rattle.order.specs.Numbers.{lookedUp, entryAt, sentOf, sectionOf}
 use Rattle.order.proofs.Checked.{number, checked-good, accepted}
 use Rattle.order.proofs.Reach.{order-length, order-below}
-use Rattle.order.proofs.Inverse.{inverse-order, inverse-at, inverse-back, inverse-there}
+use Rattle.order.proofs.Inverse.{inverse-order, inverse-back, inverse-there}
 
 module _ (table : List ℕ) (count index : ℕ) where
   pub look-bad : (r : Refusal) → r ≡ checked count table → (r .number ≡ 0 → ⊥)

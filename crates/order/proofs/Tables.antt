@@ -5,7 +5,7 @@ use native.Mathlib.Nat.{not-suc-le-zero, le-of-suc-le-suc}
 use native.Mathlib.Decide.{decLe, ℕ-discrete}
 use mathlib.Core.Path.{_≡_, refl, sym, _∙_, ap}
 use mathlib.Core.Logic.{by-cases}
-use mathlib.Core.List.{List, [], _∷_, _++_}
+use mathlib.Core.List.{List, _++_}
 use lib.ListN.{length, getD, set, take, drop, length-append, length-take, length-drop, length-set, List·getD-append}
 use lib.Seq.{getD-append-add, getD-drop, getD-take, getD-set-same, getD-set-other, take-all, take-nil, length-take-le, ext-getD}
 use Rattle.order.specs.Tables.{tabulate, filled}
@@ -24,6 +24,11 @@ unfolding tabulate
 getD-tabulate zero f k h = absurd (not-suc-le-zero h)
 getD-tabulate (suc n) f zero h = refl
 getD-tabulate (suc n) f (suc k) h = getD-tabulate n (λ i. f (suc i)) k (le-of-suc-le-suc h)
+
+pub tabulate-ext : (n : ℕ) (f g : ℕ → ℕ) → ((k : ℕ) → k < n → f k ≡ g k) → tabulate n f ≡ tabulate n g
+tabulate-ext n f g same =
+    same-words n (tabulate n f) (tabulate n g) (length-tabulate n f) (length-tabulate n g)
+    (λ k h. getD-tabulate n f k h ∙ same k h ∙ sym (getD-tabulate n g k h))
 
 module _ (new table : List ℕ) where
   pub filled-length : length (filled new table) ≡ length table

@@ -29,10 +29,14 @@ identity count = tabulate count (λ k. k)
 unfoldable pub filled : List ℕ → List ℕ → List ℕ
 filled new table = take (length table) new ++ drop (length new) table
 
--- the sections from j on, each written at its sent number; a sent number that the table hasn't is passed over
-unfoldable pub placed : ℕ → List ℕ → List ℕ → List ℕ
-placed j [] table = table
-placed j (x ∷ order) table = placed (suc j) order (set table x j)
+-- the words f j, f (j + 1), .., each written at its place; a place that the table hasn't is passed over
+unfoldable pub placedBy : (ℕ → ℕ) → ℕ → List ℕ → List ℕ → List ℕ
+placedBy f j [] table = table
+placedBy f j (x ∷ places) table = placedBy f (suc j) places (set table x (f j))
+
+-- the sections 0, 1, 2, .., each written at its sent number
+abbrev pub placed : List ℕ → List ℕ → List ℕ
+placed order table = placedBy (λ j. j) 0 order table
 
 -- 10, then 3 where the table is shorter than count, then 13
 unfoldable pub inverted : ℕ → List ℕ → List ℕ → Refusal

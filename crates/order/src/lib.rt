@@ -124,7 +124,7 @@ pub fn order_into(order: &[u32], count: u32, table: &mut [u32])
 
 // Each of the order's first count sections is written at its sent number: for an order that was checked, the inverse.
 pub fn inverse_into(order: &[u32], count: u32, inverse: &mut [u32])
-    ensures { λ _. ⌜ now (inverse .exit) ≡ placed 0 (take count (now (order .entry))) (now (inverse .entry)) ⌝ }
+    ensures { λ _. ⌜ now (inverse .exit) ≡ placed (take count (now (order .entry))) (now (inverse .entry)) ⌝ }
 {
     let mut j: u32 = 0;
     while j < count {

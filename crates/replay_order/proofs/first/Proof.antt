@@ -1,7 +1,5 @@
 -- `first`: eight words at most.
-use Prim.Native.Nat.{_≤_, _-_, _+_}
-use mathlib.Core.Path.{_≡_}
-use lib.ListN.{length}
+use Prim.Native.Nat.{_≤_, _-_}
 use borrow.Author.Needs.{needs}
 use Rattle.replay_order.proofs.first.Statement.{statement}
 use Rattle.replay_order.proofs.first.Tie as tie
