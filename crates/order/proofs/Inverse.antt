@@ -1,4 +1,4 @@
--- Laws of the inverse: there and back from either side, the inverse of the inverse, the identity, and the sections placed one by one.
+-- Laws of the inverse: there and back from either side, the inverse of the inverse, and the identity.
 use Prim.Native.Nat.{ℕ, _<_}
 use mathlib.Core.Path.{_≡_, sym, _∙_, ap}
 use mathlib.Core.List.{List}

@@ -3,7 +3,7 @@
 // these two tables turn into one another.
 ghost use mathlib.Core.Path.{_≡_};
 ghost use mathlib.Core.Bool.{_&&_};
-ghost use Prim.Native.Nat.{ℕ, _≤_};
+ghost use Prim.Native.Nat.{_≤_};
 ghost use lib.ListN.{length, set, take};
 ghost use Rattle.order.specs.Order.{allBelow, distinct, isOrder, checked, Unmarked};
 ghost use Rattle.order.specs.Tables.{identity, filled, placed, inverted, inverseAfter};
