@@ -1,2 +1,3 @@
 pub mod Rounding
 pub mod Steps
+pub mod Accepted

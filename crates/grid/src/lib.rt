@@ -7,10 +7,11 @@ use bits::Refusal;
 use tiles::count;
 use tiles::div_ceil;
 ghost use mathlib.Core.Path.{_≡_};
-ghost use mathlib.Core.Bool.{true};
+ghost use mathlib.Core.Bool.{true, false};
 ghost use Prim.Native.Nat.{_*_, _<_, _≤_, _^_};
+ghost use Rattle.bits.specs.Refusals.{pick};
 ghost use Rattle.grid.specs.Sizes.{sample, sectionsOf};
-ghost use Rattle.grid.specs.Measured.{goodRecord, refusedGrid, laid, gridOf};
+ghost use Rattle.grid.specs.Measured.{goodRecord, zeroSize, tooMany, refusedGrid, laid, gridOf};
 
 // The numbers of a frame that its geometry needs.
 pub struct Frame {
@@ -95,4 +96,53 @@ fn refused_grid(number: u32) -> Grid
         sections: 0,
         refusal: bits::refused(number, 0),
     }
+}
+
+// The grid of a frame whose record is good and whose size isn't zero, or refusal 10 over 65,536 sections: every product is exact.
+fn counted(f: Frame) -> Grid
+    requires { ⌜ (goodRecord f ≡ true) × (zeroSize f ≡ false) ⌝ }
+    ensures { λ r. ⌜ r ≡ pick (tooMany f) (refusedGrid 10) (laid f) ⌝ }
+{
+    let width = sample(f.width, f.upsampling, f.lf_level);
+    let height = sample(f.height, f.upsampling, f.lf_level);
+    let shift = f.group_size_shift;
+    let side = 128u32 << shift;
+    let lf_side = side * 8;
+    let columns = div_ceil(width, side);
+    let rows = div_ceil(height, side);
+    let lf_columns = div_ceil(width, lf_side);
+    let lf_rows = div_ceil(height, lf_side);
+    let groups = count(columns, rows);
+    let lf_groups = count(lf_columns, lf_rows);
+    let sections = sections_of(groups, lf_groups, f.num_passes as u64);
+    if 65536 < sections {
+        return refused_grid(10);
+    }
+    Grid {
+        width,
+        height,
+        side,
+        lf_side,
+        columns,
+        rows,
+        lf_columns,
+        lf_rows,
+        groups: groups as u32,
+        lf_groups: lf_groups as u32,
+        sections: sections as u32,
+        refusal: bits::accepted(),
+    }
+}
+
+// The one check of every function here: refusals 8, 9 and 10 in that order, all with place 0.
+pub fn measure(f: Frame) -> Grid
+    ensures { λ r. ⌜ r ≡ gridOf f ⌝ }
+{
+    if !is_good(f) {
+        return refused_grid(8);
+    }
+    if bits::either(f.width == 0, f.height == 0) {
+        return refused_grid(9);
+    }
+    counted(f)
 }
