@@ -103,3 +103,50 @@ groups-le g l p hp =
 
 pub lf-le : (w h side : ℕ) → 0 < side → count w h (side * 8) ≤ count w h side
 lf-le w h side p = mul-le-mul (up-fewer w side (side * 8) p (omega arith)) (up-fewer h side (side * 8) p (omega arith))
+
+-- what an accepted check tells
+pub record Accepted (f : Frame) : Type 0 where
+  pub grid : gridOf f ≡ laid f
+  pub good : Good f
+  pub width : 0 < colorWidth f
+  pub height : 0 < colorHeight f
+  pub wide : colorWidth f ≤ 1073760511
+  pub high : colorHeight f ≤ 1073760511
+  pub side : (128 ≤ groupSide f) × (groupSide f ≤ 1024)
+  pub some-group : 1 ≤ count (colorWidth f) (colorHeight f) (groupSide f)
+  pub groups : count (colorWidth f) (colorHeight f) (groupSide f) ≤ 65536
+  pub some-lf : 1 ≤ count (colorWidth f) (colorHeight f) (lfSide f)
+  pub lf-groups : count (colorWidth f) (colorHeight f) (lfSide f) ≤ count (colorWidth f) (colorHeight f) (groupSide f)
+  pub sections : sections f ≤ 65536
+
+ways : (a z m : Bool) (l : Grid) → pick a (pick z (refusedGrid 9) (pick m (refusedGrid 10) l)) (refusedGrid 8) .refusal .number ≡ 0
+    → (a ≡ true) × (z ≡ false) × (m ≡ false)
+unfolding refusedGrid
+ways true false false l e = (refl, refl, refl)
+ways true false true l e = absurd (omega arith)
+ways true true m l e = absurd (omega arith)
+ways false z m l e = absurd (omega arith)
+
+pub accepted : (f : Frame) → gridOf f .refusal .number ≡ 0 → Accepted f
+unfolding gridOf laid
+accepted f e =
+    let way = ways (goodRecord f) (zeroSize f) (tooMany f) (laid f) e in
+    let g = good f (way .0) in
+    let s = side-bounds (f .«group_size_shift») (g .shift) in
+    let w = sample-pos (f .width) (f .upsampling) (f .«lf_level») (sized f (way .1) .0) in
+    let h = sample-pos (f .height) (f .upsampling) (f .«lf_level») (sized f (way .1) .1) in
+    let n = ltb-false 65536 (sections f) (way .2) in
+    record {
+      grid = rw (way .0, way .1, way .2);
+      good = g;
+      width = w;
+      height = h;
+      wide = le-trans (sample-le (f .width) (f .upsampling) (f .«lf_level»)) (g .width);
+      high = le-trans (sample-le (f .height) (f .upsampling) (f .«lf_level»)) (g .height);
+      side = s;
+      some-group = mul-pos (up-pos _ _ w (omega (arith, s))) (up-pos _ _ h (omega (arith, s)));
+      groups = le-trans (groups-le _ _ _ (g .some-pass)) n;
+      some-lf = mul-pos (up-pos _ _ w (omega (arith, s))) (up-pos _ _ h (omega (arith, s)));
+      lf-groups = lf-le (colorWidth f) (colorHeight f) (groupSide f) (omega (arith, s));
+      sections = n;
+    }

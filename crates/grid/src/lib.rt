@@ -10,6 +10,7 @@ ghost use mathlib.Core.Path.{_≡_};
 ghost use mathlib.Core.Bool.{true, false};
 ghost use Prim.Native.Nat.{_*_, _<_, _≤_, _^_};
 ghost use Rattle.bits.specs.Refusals.{pick};
+ghost use Rattle.grid.specs.Groups.{sampled, told};
 ghost use Rattle.grid.specs.Sizes.{sample, sectionsOf};
 ghost use Rattle.grid.specs.Measured.{goodRecord, zeroSize, tooMany, refusedGrid, laid, gridOf};
 
@@ -37,6 +38,36 @@ pub struct Grid {
     pub groups: u32,
     pub lf_groups: u32,
     pub sections: u32,
+    pub refusal: Refusal,
+}
+
+// A rectangle in samples.
+pub struct Rect {
+    pub left: u32,
+    pub top: u32,
+    pub width: u32,
+    pub height: u32,
+}
+
+// The answers: a value and a refusal, beside which the value is 0, false or the empty rectangle.
+pub struct Number {
+    pub value: u32,
+    pub refusal: Refusal,
+}
+
+pub struct Size {
+    pub width: u32,
+    pub height: u32,
+    pub refusal: Refusal,
+}
+
+pub struct Placed {
+    pub rect: Rect,
+    pub refusal: Refusal,
+}
+
+pub struct Touches {
+    pub value: bool,
     pub refusal: Refusal,
 }
 
@@ -145,4 +176,107 @@ pub fn measure(f: Frame) -> Grid
         return refused_grid(9);
     }
     counted(f)
+}
+
+fn sampled(f: Frame, n: u32, upsampling: u32) -> Number
+    ensures { λ r. ⌜ r ≡ sampled f n upsampling ⌝ }
+{
+    let g = measure(f);
+    let refusal = g.refusal;
+    if refusal.number == 0 {
+        Number {
+            value: sample(n, upsampling, f.lf_level),
+            refusal,
+        }
+    } else {
+        Number { value: 0, refusal }
+    }
+}
+
+// The frame's width in samples, for an upsampling that may be any number.
+pub fn sample_width(f: Frame, upsampling: u32) -> Number
+    ensures { λ r. ⌜ r ≡ sampled f (f .width) upsampling ⌝ }
+{
+    sampled(f, f.width, upsampling)
+}
+
+pub fn sample_height(f: Frame, upsampling: u32) -> Number
+    ensures { λ r. ⌜ r ≡ sampled f (f .height) upsampling ⌝ }
+{
+    sampled(f, f.height, upsampling)
+}
+
+fn told(g: Grid, value: u32) -> Number
+    ensures { λ r. ⌜ r ≡ told g value ⌝ }
+{
+    let refusal = g.refusal;
+    Number { value, refusal }
+}
+
+// The frame's size in colour samples.
+pub fn color_sample_width(f: Frame) -> Number
+    ensures { λ r. ⌜ r ≡ told (gridOf f) (gridOf f .width) ⌝ }
+{
+    let g = measure(f);
+    told(g, g.width)
+}
+
+pub fn color_sample_height(f: Frame) -> Number
+    ensures { λ r. ⌜ r ≡ told (gridOf f) (gridOf f .height) ⌝ }
+{
+    let g = measure(f);
+    told(g, g.height)
+}
+
+// The side of a group, and of an LF group.
+pub fn group_dim(f: Frame) -> Number
+    ensures { λ r. ⌜ r ≡ told (gridOf f) (gridOf f .side) ⌝ }
+{
+    let g = measure(f);
+    told(g, g.side)
+}
+
+pub fn lf_group_dim(f: Frame) -> Number
+    ensures { λ r. ⌜ r ≡ told (gridOf f) (gridOf f .«lf_side») ⌝ }
+{
+    let g = measure(f);
+    told(g, g.lf_side)
+}
+
+// How many stand in a row.
+pub fn groups_per_row(f: Frame) -> Number
+    ensures { λ r. ⌜ r ≡ told (gridOf f) (gridOf f .columns) ⌝ }
+{
+    let g = measure(f);
+    told(g, g.columns)
+}
+
+pub fn lf_groups_per_row(f: Frame) -> Number
+    ensures { λ r. ⌜ r ≡ told (gridOf f) (gridOf f .«lf_columns») ⌝ }
+{
+    let g = measure(f);
+    told(g, g.lf_columns)
+}
+
+// How many there are.
+pub fn num_groups(f: Frame) -> Number
+    ensures { λ r. ⌜ r ≡ told (gridOf f) (gridOf f .groups) ⌝ }
+{
+    let g = measure(f);
+    told(g, g.groups)
+}
+
+pub fn num_lf_groups(f: Frame) -> Number
+    ensures { λ r. ⌜ r ≡ told (gridOf f) (gridOf f .«lf_groups») ⌝ }
+{
+    let g = measure(f);
+    told(g, g.lf_groups)
+}
+
+// How many sections the frame has.
+pub fn section_count(f: Frame) -> Number
+    ensures { λ r. ⌜ r ≡ told (gridOf f) (gridOf f .sections) ⌝ }
+{
+    let g = measure(f);
+    told(g, g.sections)
 }
