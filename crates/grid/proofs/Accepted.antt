@@ -16,7 +16,7 @@ use Rattle.grid.specs.Sizes.{up, sample, sampleWidth, sampleHeight, colo
 use Rattle.grid.specs.Measured.{upsamples, goodRecord, zeroSize, tooMany, laid, refusedGrid, gridOf}
 use Rattle.grid.proofs.Rounding.{up-pos, up-le, up-fewer, up-small, below}
 
-and-parts : (a b : Bool) → (a && b) ≡ true → (a ≡ true) × (b ≡ true)
+pub and-parts : (a b : Bool) → (a && b) ≡ true → (a ≡ true) × (b ≡ true)
 and-parts true b e = (refl, e)
 and-parts false true e = (e, refl)
 and-parts false false e = (e, e)
@@ -150,3 +150,34 @@ accepted f e =
       lf-groups = lf-le (colorWidth f) (colorHeight f) (groupSide f) (omega (arith, s));
       sections = n;
     }
+
+-- the same, of the grid that the check answers
+pub record Sound (g : Grid) : Type 0 where
+  pub width : 0 < g .width
+  pub height : 0 < g .height
+  pub side : 0 < g .side
+  pub lf-side : g .«lf_side» ≡ g .side * 8
+  pub columns : g .columns ≡ up (g .width) (g .side)
+  pub rows : g .rows ≡ up (g .height) (g .side)
+  pub some-column : 0 < g .columns
+  pub lf-columns : g .«lf_columns» ≤ g .columns
+  pub groups : g .columns * g .rows ≤ 65536
+
+laid-sound : (f : Frame) → Accepted f → Sound (laid f)
+unfolding laid
+laid-sound f a = record {
+  width = a .width;
+  height = a .height;
+  side = omega (arith, a .side);
+  lf-side = refl;
+  columns = refl;
+  rows = refl;
+  some-column = up-pos _ _ (a .width) (omega (arith, a .side));
+  lf-columns = up-fewer (colorWidth f) (groupSide f) (lfSide f) (omega (arith, a .side)) (omega arith);
+  groups = a .groups;
+}
+
+pub sound : (f : Frame) (g : Grid) → g ≡ gridOf f → g .refusal .number ≡ 0 → Sound g
+sound f g m z =
+    let a = accepted f (rw m at z) in
+    rw (m, a .grid) (laid-sound f a)

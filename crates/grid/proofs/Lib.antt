@@ -2,3 +2,4 @@ pub mod Rounding
 pub mod Accepted
 pub mod Steps
 pub mod Answers
+pub mod Lookups

@@ -5,7 +5,7 @@ use native.Mathlib.Omega.{arith}
 use native.Mathlib.Numerals.{add-one}
 use native.Mathlib.Nat.{
   div-zero, div-eq-of-lt, add-div-right, div-mul-le-self, lt-div-mul-add, mul-le-mul-right, mul-le-mul-left, mul-le-mul, mul-lt-mul-of-pos-right,
-  lt-of-le-of-lt, le-of-lt, lt-of-mul-lt-mul-right, mul-assoc, mul-comm, suc-mul, div-le-self,
+  lt-of-le-of-lt, le-of-lt, lt-of-mul-lt-mul-right, mul-assoc, mul-comm, suc-mul, div-le-self, zero-mul, mod-lt, div-lt-iff-lt-mul,
 }
 use mathlib.Core.Path.{_≡_, refl, sym, _∙_, ap, subst⁻¹}
 use mathlib.Core.Logic.{by-cases}
@@ -88,3 +88,21 @@ eight (suc (suc (suc (suc (suc l))))) h = omega arith
 -- a group side, as a shift
 pub side-exact : (s : ℕ) → s ≤ 3 → 128 * 2 ^ s % 4294967296 ≡ 128 * 2 ^ s
 side-exact s h = shl-exact 8 s 32 (lit< tt) (omega arith)
+
+left-pos : (a b i : ℕ) → i < a * b → 0 < a
+left-pos zero b i h = omega (arith, zero-mul b)
+left-pos (suc a) b i h = omega arith
+
+-- a square that there is begins inside
+module _ (w h side i : ℕ) (there : i < up w side * up h side) where
+  pub columns-pos : 0 < up w side
+  columns-pos = left-pos (up w side) (up h side) i there
+
+  pub left-lt : i % up w side * side < w
+  left-lt = begins w side (i % up w side) (mod-lt i columns-pos)
+
+  pub row-lt : i / up w side < up h side
+  row-lt = div-lt-iff-lt-mul columns-pos .1 (rw (mul-comm (up h side) (up w side)) there)
+
+  pub top-lt : i / up w side * side < h
+  top-lt = begins h side (i / up w side) row-lt

@@ -6,11 +6,15 @@ mod tiles;
 use bits::Refusal;
 use tiles::count;
 use tiles::div_ceil;
+use tiles::has;
+use tiles::judge;
+use tiles::rect_for;
+use tiles::touch_for;
 ghost use mathlib.Core.Path.{_≡_};
 ghost use mathlib.Core.Bool.{true, false};
 ghost use Prim.Native.Nat.{_*_, _<_, _≤_, _^_};
 ghost use Rattle.bits.specs.Refusals.{pick};
-ghost use Rattle.grid.specs.Groups.{sampled, told};
+ghost use Rattle.grid.specs.Groups.{sampled, told, rectFor, sizeOf, touchFor, lfIndexOf, indexFor};
 ghost use Rattle.grid.specs.Sizes.{sample, sectionsOf};
 ghost use Rattle.grid.specs.Measured.{goodRecord, zeroSize, tooMany, refusedGrid, laid, gridOf};
 
@@ -279,4 +283,107 @@ pub fn section_count(f: Frame) -> Number
 {
     let g = measure(f);
     told(g, g.sections)
+}
+
+// The clipped rectangle of a group, with its origin.
+pub fn group_rect(f: Frame, group_idx: u32) -> Placed
+    ensures { λ r. ⌜ r ≡ rectFor (gridOf f) (gridOf f .side) «group_idx» ⌝ }
+{
+    let g = measure(f);
+    rect_for(g, g.side, group_idx)
+}
+
+// The clipped rectangle of an LF group.
+pub fn lf_group_rect(f: Frame, lf_group_idx: u32) -> Placed
+    ensures { λ r. ⌜ r ≡ rectFor (gridOf f) (gridOf f .«lf_side») «lf_group_idx» ⌝ }
+{
+    let g = measure(f);
+    rect_for(g, g.lf_side, lf_group_idx)
+}
+
+fn size_of(p: Placed) -> Size
+    ensures { λ r. ⌜ r ≡ sizeOf p ⌝ }
+{
+    let rect = p.rect;
+    let refusal = p.refusal;
+    Size {
+        width: rect.width,
+        height: rect.height,
+        refusal,
+    }
+}
+
+// The size of a group, clipped.
+pub fn group_size_for(f: Frame, group_idx: u32) -> Size
+    ensures { λ r. ⌜ r ≡ sizeOf (rectFor (gridOf f) (gridOf f .side) «group_idx») ⌝ }
+{
+    size_of(group_rect(f, group_idx))
+}
+
+// The size of an LF group, clipped.
+pub fn lf_group_size_for(f: Frame, lf_group_idx: u32) -> Size
+    ensures { λ r. ⌜ r ≡ sizeOf (rectFor (gridOf f) (gridOf f .«lf_side») «lf_group_idx») ⌝ }
+{
+    size_of(lf_group_rect(f, lf_group_idx))
+}
+
+// Whether a region overlaps a group, unclipped.
+pub fn is_group_collides_region(f: Frame, group_idx: u32, region: Rect) -> Touches
+    ensures { λ r. ⌜ r ≡ touchFor (gridOf f) (gridOf f .side) «group_idx» region ⌝ }
+{
+    let g = measure(f);
+    touch_for(g, g.side, group_idx, region)
+}
+
+// Whether a region overlaps an LF group, unclipped.
+pub fn is_lf_group_collides_region(f: Frame, lf_group_idx: u32, region: Rect) -> Touches
+    ensures { λ r. ⌜ r ≡ touchFor (gridOf f) (gridOf f .«lf_side») «lf_group_idx» region ⌝ }
+{
+    let g = measure(f);
+    touch_for(g, g.lf_side, lf_group_idx, region)
+}
+
+// The LF group that holds a group.
+pub fn lf_group_idx_from_group_idx(f: Frame, group_idx: u32) -> Number
+    ensures { λ r. ⌜ r ≡ lfIndexOf (gridOf f) «group_idx» ⌝ }
+{
+    let g = measure(f);
+    let known = has(g, g.side, group_idx);
+    let refusal = judge(g, known);
+    if refusal.number != 0 {
+        return Number { value: 0, refusal };
+    }
+    let columns = g.columns;
+    let across = (group_idx % columns) / 8;
+    let down = (group_idx / columns) / 8;
+    Number {
+        value: across + down * g.lf_columns,
+        refusal,
+    }
+}
+
+// The group of a point, which may lie beyond the picture but inside an unclipped group.
+pub fn group_idx_from_coord(f: Frame, x: u32, y: u32) -> Number
+    ensures { λ r. ⌜ r ≡ indexFor (gridOf f) x y ⌝ }
+{
+    let g = measure(f);
+    let own = g.refusal;
+    if own.number != 0 {
+        return Number {
+            value: 0,
+            refusal: own,
+        };
+    }
+    let side = g.side;
+    let column = x / side;
+    let row = y / side;
+    let known = bits::both(column < g.columns, row < g.rows);
+    let refusal = judge(g, known);
+    if refusal.number != 0 {
+        return Number { value: 0, refusal };
+    }
+    Number {
+        value: row * g.columns + column,
+        refusal,
+    }
 }

@@ -1,3 +1,4 @@
+use Rattle.grid.specs.Groups.{told}
 use Rattle.grid.proofs.Answers.{asked}
 use borrow.Author.Needs.{needs}
 use Rattle.grid.proofs.color_sample_height.Statement.{statement}
@@ -17,7 +18,7 @@ told-requires c κs = search needs
 
 -- src/lib.rt:224:1
 returns : tie.Need-returns
-returns c = asked (λ g. g .height) (c .told .ensures) (c .before .measure .ensures)
+returns c = asked (λ g. told g (g .height)) (c .told .ensures) (c .before .measure .ensures)
 
 pub color-sample-height-spec : {M : Type 1} → statement M
 color-sample-height-spec = tie.close (tie.spec measure-requires told-requires returns)

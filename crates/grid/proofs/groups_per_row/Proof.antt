@@ -1,3 +1,4 @@
+use Rattle.grid.specs.Groups.{told}
 use Rattle.grid.proofs.Answers.{asked}
 use borrow.Author.Needs.{needs}
 use Rattle.grid.proofs.groups_per_row.Statement.{statement}
@@ -17,7 +18,7 @@ told-requires c κs = search needs
 
 -- src/lib.rt:247:1
 returns : tie.Need-returns
-returns c = asked (λ g. g .columns) (c .told .ensures) (c .before .measure .ensures)
+returns c = asked (λ g. told g (g .columns)) (c .told .ensures) (c .before .measure .ensures)
 
 pub groups-per-row-spec : {M : Type 1} → statement M
 groups-per-row-spec = tie.close (tie.spec measure-requires told-requires returns)

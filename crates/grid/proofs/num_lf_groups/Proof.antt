@@ -1,3 +1,4 @@
+use Rattle.grid.specs.Groups.{told}
 use Rattle.grid.proofs.Answers.{asked}
 use borrow.Author.Needs.{needs}
 use Rattle.grid.proofs.num_lf_groups.Statement.{statement}
@@ -17,7 +18,7 @@ told-requires c κs = search needs
 
 -- src/lib.rt:269:1
 returns : tie.Need-returns
-returns c = asked (λ g. g .«lf_groups») (c .told .ensures) (c .before .measure .ensures)
+returns c = asked (λ g. told g (g .«lf_groups»)) (c .told .ensures) (c .before .measure .ensures)
 
 pub num-lf-groups-spec : {M : Type 1} → statement M
 num-lf-groups-spec = tie.close (tie.spec measure-requires told-requires returns)
