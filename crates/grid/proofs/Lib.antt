@@ -3,3 +3,5 @@ pub mod Accepted
 pub mod Steps
 pub mod Answers
 pub mod Lookups
+pub mod Cover
+pub mod Exactly

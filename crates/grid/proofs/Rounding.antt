@@ -4,8 +4,25 @@ use native.Mathlib.Decide.{decLe}
 use native.Mathlib.Omega.{arith}
 use native.Mathlib.Numerals.{add-one}
 use native.Mathlib.Nat.{
-  div-zero, div-eq-of-lt, add-div-right, div-mul-le-self, lt-div-mul-add, mul-le-mul-right, mul-le-mul-left, mul-le-mul, mul-lt-mul-of-pos-right,
-  lt-of-le-of-lt, le-of-lt, lt-of-mul-lt-mul-right, mul-assoc, mul-comm, suc-mul, div-le-self, zero-mul, mod-lt, div-lt-iff-lt-mul,
+  div-zero,
+  div-eq-of-lt,
+  add-div-right,
+  div-mul-le-self,
+  lt-div-mul-add,
+  mul-le-mul-right,
+  mul-le-mul-left,
+  mul-le-mul,
+  mul-lt-mul-of-pos-right,
+  lt-of-le-of-lt,
+  le-of-lt,
+  lt-of-mul-lt-mul-right,
+  mul-assoc,
+  mul-comm,
+  suc-mul,
+  div-le-self,
+  zero-mul,
+  mod-lt,
+  div-lt-iff-lt-mul,
 }
 use mathlib.Core.Path.{_≡_, refl, sym, _∙_, ap, subst⁻¹}
 use mathlib.Core.Logic.{by-cases}

@@ -7,6 +7,7 @@ use bits::Refusal;
 use tiles::count;
 use tiles::div_ceil;
 use tiles::has;
+pub use tiles::is_aabb_collides;
 use tiles::judge;
 use tiles::rect_for;
 use tiles::touch_for;

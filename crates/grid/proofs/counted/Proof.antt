@@ -1,19 +1,12 @@
+-- `counted`: each number from those before it, bounds that let no product wrap, and the laws of what was counted.
 use Prim.Native.Nat.{_*_, _%_, _^_}
 use native.Mathlib.Omega.{arith}
+use borrow.Author.Needs.{needs}
 use Rattle.grid.proofs.Rounding.{side-exact}
 use Rattle.grid.proofs.Accepted.{good, side-bounds}
 use Rattle.grid.proofs.Steps.{Counts, counts-small, too-many, counts-few, all-laid}
-use borrow.Author.Needs.{needs}
 use Rattle.grid.proofs.counted.Statement.{statement}
 use Rattle.grid.proofs.counted.Tie as tie
-use Rattle.grid.proofs.counted.Reads as reads
-use Rattle.grid.proofs.counted.Lts as lts
-use Rattle.bits.proofs.accepted.Reads as accepted-reads
-use Rattle.grid.proofs.refused_grid.Reads as refused-grid-reads
-use Rattle.grid.proofs.sample.Reads as sample-reads
-use Rattle.grid.proofs.sections_of.Reads as sections-of-reads
-use Rattle.grid.proofs.tiles.count.Reads as count-reads
-use Rattle.grid.proofs.tiles.div_ceil.Reads as div-ceil-reads
 
 counts : (c : tie.After-count2) → Counts (c .before .before .before .before .before .before .before .before .args .f) (c .before .before .before .before .before .before .before .sample .result) (c .before .before .before .before .before .before .sample2 .result) (128 * 2 ^ c .before .before .before .before .before .before .before .before .args .f .«group_size_shift» % 4294967296) (c .before .before .before .before .before .div-ceil .result) (c .before .before .before .before .div-ceil2 .result)
     (c .before .before .before .div-ceil3 .result) (c .before .before .div-ceil4 .result) (c .before .count .result) (c .count2 .result)
@@ -31,81 +24,62 @@ counts c = record {
   lf-groups = c .count2 .ensures;
 }
 
--- src/lib.rt:106:9
 sample-requires : tie.Need-sample-requires
 sample-requires c κs = good _ (c .pre .0) .level
 
--- src/lib.rt:107:9
 sample-requires-2 : tie.Need-sample-requires-2
 sample-requires-2 c κs = good _ (c .before .pre .0) .level
 
--- src/lib.rt:109:16
 shl-side : tie.Need-shl-side
 shl-side c = omega (arith, good _ (c .before .before .pre .0) .shift)
 
--- src/lib.rt:110:19
 mul-lf-side : tie.Need-mul-lf-side
-mul-lf-side c = 
+mul-lf-side c =
     let h = good _ (c .before .before .pre .0) .shift in
     record { fits = omega (arith, side-exact _ h, side-bounds _ h) }
 
--- src/lib.rt:111:9
 div-ceil-requires : tie.Need-div-ceil-requires
 div-ceil-requires c κs = search needs
 
--- src/lib.rt:112:9
 div-ceil-requires-2 : tie.Need-div-ceil-requires-2
 div-ceil-requires-2 c κs = search needs
 
--- src/lib.rt:113:9
 div-ceil-requires-3 : tie.Need-div-ceil-requires-3
 div-ceil-requires-3 c κs = search needs
 
--- src/lib.rt:114:9
 div-ceil-requires-4 : tie.Need-div-ceil-requires-4
 div-ceil-requires-4 c κs = search needs
 
--- src/lib.rt:115:9
 count-requires : tie.Need-count-requires
 count-requires c κs = search needs
 
--- src/lib.rt:116:9
 count-requires-2 : tie.Need-count-requires-2
 count-requires-2 c κs = search needs
 
--- src/lib.rt:117:51
 cast-sections-of : tie.Need-cast-sections-of
 cast-sections-of c = search needs
 
--- src/lib.rt:117:9
 sections-of-requires : tie.Need-sections-of-requires
 sections-of-requires c κs = counts-small (counts (c .before))
 
--- src/lib.rt:119:9
 refused-grid-requires : tie.Need-refused-grid-requires
 refused-grid-requires c κs = search needs
 
--- src/lib.rt:119:9
 returns : tie.Need-returns
 returns c = too-many (counts (c .before .before .before .before)) _ (c .before .before .sections-of .ensures) _ (c .before .if1 .taken) (c .refused-grid .ensures)
 
--- src/lib.rt:130:17
 cast-t16 : tie.Need-cast-t16
 cast-t16 c = record { fits = omega (arith, counts-few (counts (c .before .before .before)) _ (c .before .sections-of .ensures) (c .if1 .left)) }
 
--- src/lib.rt:131:20
 cast-t17 : tie.Need-cast-t17
 cast-t17 c = record { fits = omega (arith, counts-few (counts (c .before .before .before)) _ (c .before .sections-of .ensures) (c .if1 .left)) }
 
--- src/lib.rt:132:19
 cast-t18 : tie.Need-cast-t18
 cast-t18 c = search needs
 
--- src/lib.rt:133:18
 accepted-requires : tie.Need-accepted-requires
 accepted-requires c κs = search needs
 
--- src/lib.rt:102:1
 returns-2 : tie.Need-returns-2
 returns-2 c = all-laid (counts (c .before .before .before .before)) _ (c .before .before .sections-of .ensures) _ (c .before .if1 .left) (c .accepted .ensures)
 

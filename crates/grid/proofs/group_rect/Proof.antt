@@ -1,22 +1,16 @@
+-- `group_rect`: the rectangle of a side, through the check.
+use borrow.Author.Needs.{needs}
 use Rattle.grid.specs.Groups.{rectFor}
 use Rattle.grid.proofs.Answers.{asked}
-use borrow.Author.Needs.{needs}
 use Rattle.grid.proofs.group_rect.Statement.{statement}
 use Rattle.grid.proofs.group_rect.Tie as tie
-use Rattle.grid.proofs.group_rect.Reads as reads
-use Rattle.grid.proofs.group_rect.Lts as lts
-use Rattle.grid.proofs.measure.Reads as measure-reads
-use Rattle.grid.proofs.tiles.rect_for.Reads as rect-for-reads
 
--- src/lib.rt:292:9
 measure-requires : tie.Need-measure-requires
 measure-requires c κs = search needs
 
--- src/lib.rt:293:5
 rect-for-requires : tie.Need-rect-for-requires
 rect-for-requires c κs = search needs
 
--- src/lib.rt:289:1
 returns : tie.Need-returns
 returns c = asked (λ g. rectFor g (g .side) (c .before .before .args .group-idx)) (c .rect-for .ensures) (c .before .measure .ensures)
 

@@ -1,22 +1,16 @@
+-- `is_group_collides_region`: the question of a side, through the check.
+use borrow.Author.Needs.{needs}
 use Rattle.grid.specs.Groups.{touchFor}
 use Rattle.grid.proofs.Answers.{asked}
-use borrow.Author.Needs.{needs}
 use Rattle.grid.proofs.is_group_collides_region.Statement.{statement}
 use Rattle.grid.proofs.is_group_collides_region.Tie as tie
-use Rattle.grid.proofs.is_group_collides_region.Reads as reads
-use Rattle.grid.proofs.is_group_collides_region.Lts as lts
-use Rattle.grid.proofs.measure.Reads as measure-reads
-use Rattle.grid.proofs.tiles.touch_for.Reads as touch-for-reads
 
--- src/lib.rt:334:9
 measure-requires : tie.Need-measure-requires
 measure-requires c κs = search needs
 
--- src/lib.rt:335:5
 touch-for-requires : tie.Need-touch-for-requires
 touch-for-requires c κs = search needs
 
--- src/lib.rt:331:1
 returns : tie.Need-returns
 returns c = asked (λ g. touchFor g (g .side) (c .before .before .args .group-idx) (c .before .before .args .region)) (c .touch-for .ensures) (c .before .measure .ensures)
 

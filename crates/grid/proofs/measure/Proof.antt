@@ -1,45 +1,32 @@
+-- `measure`: the check's ways, one law each.
 use mathlib.Core.Path.{sym, _∙_}
 use borrow.Author.Tests.{not-false}
-use Rattle.grid.proofs.Steps.{judged-bad, judged-zero, judged-counted}
 use borrow.Author.Needs.{needs}
+use Rattle.grid.proofs.Steps.{judged-bad, judged-zero, judged-counted}
 use Rattle.grid.proofs.measure.Statement.{statement}
 use Rattle.grid.proofs.measure.Tie as tie
-use Rattle.grid.proofs.measure.Reads as reads
-use Rattle.grid.proofs.measure.Lts as lts
-use Rattle.bits.proofs.either.Reads as either-reads
-use Rattle.grid.proofs.counted.Reads as counted-reads
-use Rattle.grid.proofs.is_good.Reads as is-good-reads
-use Rattle.grid.proofs.refused_grid.Reads as refused-grid-reads
 
--- src/lib.rt:141:9
 is-good-requires : tie.Need-is-good-requires
 is-good-requires c κs = search needs
 
--- src/lib.rt:142:9
 refused-grid-requires : tie.Need-refused-grid-requires
 refused-grid-requires c κs = search needs
 
--- src/lib.rt:142:9
 returns : tie.Need-returns
 returns c = judged-bad (c .before .before .before .args .f) _ _ (c .before .before .is-good .ensures) (c .before .if1 .taken) (c .refused-grid .ensures)
 
--- src/lib.rt:144:8
 either-requires : tie.Need-either-requires
 either-requires c κs = search needs
 
--- src/lib.rt:145:9
 refused-grid-requires-2 : tie.Need-refused-grid-requires-2
 refused-grid-requires-2 c κs = search needs
 
--- src/lib.rt:145:9
 returns-2 : tie.Need-returns-2
 returns-2 c = judged-zero (c .before .before .before .before .before .before .before .args .f) _ _ _ (c .before .before .before .before .before .before .is-good .ensures) (c .before .before .before .before .before .if1 .left) (c .before .before .either .ensures) (c .before .if2 .taken) (c .refused-grid2 .ensures)
 
--- src/lib.rt:147:5
 counted-requires : tie.Need-counted-requires
 counted-requires c κs = (sym (c .before .before .before .before .before .is-good .ensures) ∙ not-false _ (c .before .before .before .before .if1 .left), sym (c .before .either .ensures) ∙ c .if2 .left)
 
--- src/lib.rt:138:1
 returns-3 : tie.Need-returns-3
 returns-3 c = judged-counted (c .before .before .before .before .before .before .before .args .f) _ _ _ (c .before .before .before .before .before .before .is-good .ensures) (c .before .before .before .before .before .if1 .left) (c .before .before .either .ensures) (c .before .if2 .left) (c .counted .ensures)
 

@@ -1,38 +1,29 @@
+-- `sections_of`: one section, or several; the product fits.
 use native.Mathlib.Omega.{arith}
 use native.Mathlib.Nat.{mul-le-mul-left}
-use Rattle.grid.proofs.Steps.{sections-one, sections-many}
 use borrow.Author.Needs.{needs}
+use Rattle.grid.proofs.Steps.{sections-one, sections-many}
 use Rattle.grid.proofs.sections_of.Statement.{statement}
 use Rattle.grid.proofs.sections_of.Tie as tie
-use Rattle.grid.proofs.sections_of.Reads as reads
-use Rattle.grid.proofs.sections_of.Lts as lts
-use Rattle.bits.proofs.both.Reads as both-reads
 
--- src/lib.rt:73:8
 both-requires : tie.Need-both-requires
 both-requires c κs = search needs
 
--- src/lib.rt:76:9
 add-result : tie.Need-add-result
 add-result c = search needs
 
--- src/lib.rt:76:9
 add-result-2 : tie.Need-add-result-2
 add-result-2 c = search needs
 
--- src/lib.rt:76:22
 mul-result : tie.Need-mul-result
 mul-result c = record { fits = omega (arith, mul-le-mul-left (c .before .before .args .groups) (c .before .before .pre .2)) }
 
--- src/lib.rt:76:9
 add-result-3 : tie.Need-add-result-3
 add-result-3 c = record { fits = omega (arith, mul-le-mul-left (c .before .before .args .groups) (c .before .before .pre .2)) }
 
--- src/lib.rt:69:1
 returns : tie.Need-returns
 returns c = sections-one _ _ _ _ (c .before .both .ensures) (c .if1 .taken)
 
--- src/lib.rt:69:1
 returns-2 : tie.Need-returns-2
 returns-2 c = sections-many _ _ _ _ (c .before .both .ensures) (c .if1 .left)
 

@@ -1,11 +1,9 @@
+-- `size_of`: a rectangle's width and height.
 use mathlib.Core.Path.{refl}
 use Rattle.grid.specs.Groups.{sizeOf}
 use Rattle.grid.proofs.size_of.Statement.{statement}
 use Rattle.grid.proofs.size_of.Tie as tie
-use Rattle.grid.proofs.size_of.Reads as reads
-use Rattle.grid.proofs.size_of.Lts as lts
 
--- src/lib.rt:304:1
 returns : tie.Need-returns
 unfolding sizeOf
 returns c = refl

@@ -1,35 +1,28 @@
+-- `div_ceil`: nothing to divide, nothing to divide by, or one more than a quotient.
 use Prim.Native.Nat.{_-_}
 use native.Mathlib.Omega.{arith}
 use native.Mathlib.Nat.{div-le-self}
 use mathlib.Core.Path.{sym}
-use Rattle.grid.proofs.Rounding.{up-none, up-zero, up-by}
 use borrow.Author.Needs.{needs}
+use Rattle.grid.proofs.Rounding.{up-none, up-zero, up-by}
 use Rattle.grid.proofs.tiles.div_ceil.Statement.{statement}
 use Rattle.grid.proofs.tiles.div_ceil.Tie as tie
-use Rattle.grid.proofs.tiles.div_ceil.Reads as reads
-use Rattle.grid.proofs.tiles.div_ceil.Lts as lts
 
--- src/tiles.rt:11:9
 returns : tie.Need-returns
 returns c = rw (c .if1 .taken) (sym (up-none _))
 
--- src/tiles.rt:14:9
 returns-2 : tie.Need-returns-2
 returns-2 c = rw (c .if2 .taken) (sym (up-zero _ (omega arith)))
 
--- src/tiles.rt:16:6
 sub-result : tie.Need-sub-result
 sub-result c = search needs
 
--- src/tiles.rt:16:5
 div-result : tie.Need-div-result
 div-result c = search needs
 
--- src/tiles.rt:16:5
 add-result : tie.Need-add-result
 add-result c = omega (arith, div-le-self (c .before .before .args .a - 1) (c .before .before .args .b))
 
--- src/tiles.rt:7:1
 returns-3 : tie.Need-returns-3
 returns-3 c = up-by _ _ (omega arith) (omega arith)
 

@@ -1,41 +1,30 @@
-use Rattle.grid.proofs.Answers.{collides-by}
+-- `is_aabb_collides`: four comparisons.
 use borrow.Author.Needs.{needs}
+use Rattle.grid.proofs.Answers.{collides-by}
 use Rattle.grid.proofs.tiles.is_aabb_collides.Statement.{statement}
 use Rattle.grid.proofs.tiles.is_aabb_collides.Tie as tie
-use Rattle.grid.proofs.tiles.is_aabb_collides.Reads as reads
-use Rattle.grid.proofs.tiles.is_aabb_collides.Lts as lts
-use Rattle.bits.proofs.both.Reads as both-reads
-use Rattle.grid.proofs.tiles.reaches.Reads as reaches-reads
 
--- src/tiles.rt:132:9
 reaches-requires : tie.Need-reaches-requires
 reaches-requires c κs = search needs
 
--- src/tiles.rt:133:9
 reaches-requires-2 : tie.Need-reaches-requires-2
 reaches-requires-2 c κs = search needs
 
--- src/tiles.rt:131:9
 both-requires : tie.Need-both-requires
 both-requires c κs = search needs
 
--- src/tiles.rt:136:9
 reaches-requires-3 : tie.Need-reaches-requires-3
 reaches-requires-3 c κs = search needs
 
--- src/tiles.rt:137:9
 reaches-requires-4 : tie.Need-reaches-requires-4
 reaches-requires-4 c κs = search needs
 
--- src/tiles.rt:135:9
 both-requires-2 : tie.Need-both-requires-2
 both-requires-2 c κs = search needs
 
--- src/tiles.rt:139:5
 both-requires-3 : tie.Need-both-requires-3
 both-requires-3 c κs = search needs
 
--- src/tiles.rt:128:1
 returns : tie.Need-returns
 returns c = collides-by (c .before .before .before .before .before .before .before .args .a) (c .before .before .before .before .before .before .before .args .b) _ _ _ _ _ _ _ (c .before .before .before .before .before .before .reaches .ensures) (c .before .before .before .before .before .reaches2 .ensures) (c .before .before .before .before .both .ensures) (c .before .before .before .reaches3 .ensures) (c .before .before .reaches4 .ensures) (c .before .both2 .ensures) (c .both3 .ensures)
 
