@@ -1,18 +1,18 @@
 -- What an accepted check tells of a frame and its grid: bounds, sides and counts.
-use Prim.Native.Nat.{ℕ, zero, suc, _+_, _*_, _^_, _≤_, _<_}
+use Prim.Native.Nat.{ℕ, _+_, _*_, _^_, _≤_, _<_}
 use native.Mathlib.Omega.{arith}
 use native.Mathlib.Nat.{mul-le-mul, mul-pos, le-mul-of-pos-right, pow-le-pow-right, le-trans}
-use mathlib.Core.Path.{_≡_, refl, sym, _∙_, ap}
+use mathlib.Core.Path.{_≡_, refl}
 use mathlib.Core.Bool.{Bool, true, false, _&&_, _||_}
 use mathlib.Core.Logic.{by-cases}
 use native.Mathlib.Decide.{decLe}
 use borrow.Author.Tests.{le-leb, lt-leb, leb-true, eqb-true, eqb-false, ltb-false}
-use lib.Dec.{leb, ltb, eqb, lit≤}
+use lib.Dec.{leb, eqb}
 use lib.Pow.{pow-mono, pow-pos}
-use Rattle.bits.specs.Refusals.{pick, refusal, none}
+use Rattle.bits.specs.Refusals.{pick}
 use Rattle.grid.specs.declared.Frame.{Frame}
 use Rattle.grid.specs.declared.Grid.{Grid}
-use Rattle.grid.specs.Sizes.{up, sample, sampleWidth, sampleHeight, colorWidth, colorHeight, groupSide, lfSide, count, sectionsOf, sections}
+use Rattle.grid.specs.Sizes.{up, sample, colorWidth, colorHeight, groupSide, lfSide, count, sectionsOf, sections}
 use Rattle.grid.specs.Measured.{upsamples, goodRecord, zeroSize, tooMany, laid, refusedGrid, gridOf}
 use Rattle.grid.proofs.Rounding.{up-pos, up-le, up-fewer, up-small, below}
 

@@ -1,10 +1,10 @@
 -- What each answer asks for at its return, over plain variables.
-use Prim.Native.Nat.{ℕ, _+_, _-_, _*_, min, _/_, _%_, _^_, _≤_, _<_}
+use Prim.Native.Nat.{ℕ, _+_, _-_, _*_, min, _/_, _%_, _<_}
 use native.Mathlib.Omega.{arith}
-use mathlib.Core.Path.{_≡_, refl, sym, _∙_, ap}
-use mathlib.Core.Bool.{Bool, true, false, not, _&&_}
+use mathlib.Core.Path.{_≡_, refl, sym, _∙_}
+use mathlib.Core.Bool.{Bool, true, false, _&&_}
 use borrow.Author.Tests.{eq-eqb, ne-eqb, eqb-true, eqb-false, ltb-true}
-use lib.Dec.{leb, ltb, eqb}
+use lib.Dec.{ltb, eqb}
 use Rattle.bits.specs.Refusals.{pick, refusal, none}
 use Rattle.bits.specs.declared.Refusal.{Refusal}
 use Rattle.grid.specs.declared.Frame.{Frame}
@@ -16,7 +16,7 @@ use Rattle.grid.specs.declared.Touches.{Touches}
 use Rattle.grid.proofs.Rounding.{columns-pos, left-lt, top-lt}
 use Rattle.grid.specs.Sizes.{up, sample}
 use Rattle.grid.specs.Measured.{gridOf}
-use Rattle.grid.specs.Groups.{has, judge, cellOf, clipped, collides, told, numbered, placed, touching, sampled, rectFor, touchFor}
+use Rattle.grid.specs.Groups.{has, judge, cellOf, clipped, collides, numbered, placed, touching, sampled, rectFor, touchFor}
 
 -- an answer out of the grid, asked for through the check
 pub asked : {A : Type 0} (v : Grid → A) {r : A} {g h : Grid} → r ≡ v g → g ≡ h → r ≡ v h

@@ -1,32 +1,14 @@
 -- Squares of a side that cover a picture row by row: which one holds a sample, and what their clipped areas come to. `Exactly` has the theorem.
 use Prim.Native.Nat.{ℕ, zero, suc, _+_, _-_, _*_, _/_, _%_, min, _≤_, _<_}
 use native.Mathlib.Omega.{arith}
-use native.Mathlib.Nat.{
-  div-eq-of-lt-le,
-  div-add-mod',
-  div-mul-le-self,
-  lt-div-mul-add,
-  suc-mul,
-  zero-mul,
-  zero-min,
-  add-mul,
-  mul-add,
-  mul-suc,
-  mul-zero,
-  mul-comm,
-  mul-assoc,
-  add-suc,
-  add-zero,
-  mod-lt,
-  min-eq-right,
-}
+use native.Mathlib.Nat.{div-eq-of-lt-le, div-add-mod', div-mul-le-self, lt-div-mul-add, suc-mul, zero-mul, zero-min, add-mul, mul-add, mul-zero, mul-comm, add-suc, add-zero, min-eq-right}
 use native.Mathlib.Numerals.{add-one}
-use mathlib.Core.Path.{_≡_, refl, sym, _∙_, ap}
+use mathlib.Core.Path.{_≡_, sym}
 use lib.Arith.{digits-lt, digits-div, digits-mod}
 use Rattle.grid.specs.declared.Rect.{Rect}
 use Rattle.grid.specs.Sizes.{up, count}
 use Rattle.grid.specs.Groups.{cellOf, clipped, rectOf, indexAt}
-use Rattle.grid.proofs.Rounding.{up-covers, up-pos, begins, holds}
+use Rattle.grid.proofs.Rounding.{up-covers, holds}
 
 -- a sample lies in a rectangle
 pub record In (r : Rect) (x y : ℕ) : Type 0 where

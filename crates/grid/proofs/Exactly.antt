@@ -1,18 +1,13 @@
 -- The theorem: each colour sample lies in exactly one clipped rectangle, the group that `group_idx_from_coord` answers is that one, and the
 -- rectangles' areas sum to the picture's. Over the side once, then for the groups and the LF groups of every accepted frame.
-use Prim.Native.Nat.{ℕ, _+_, _*_, _/_, _%_, _≤_, _<_}
+use Prim.Native.Nat.{ℕ, _*_, _/_, _<_}
 use native.Mathlib.Omega.{arith}
 use native.Mathlib.Nat.{add-comm, div-div-eq-div-mul}
-use mathlib.Core.Path.{_≡_, refl, sym, _∙_, ap}
-use mathlib.Core.Bool.{true, _&&_}
-use borrow.Author.Tests.{lt-ltb, eq-eqb}
-use lib.Dec.{ltb, eqb}
+use mathlib.Core.Path.{_≡_, sym, _∙_}
+use borrow.Author.Tests.{lt-ltb}
 use lib.Arith.{digits-div, digits-mod}
 use Rattle.bits.specs.Refusals.{none}
 use Rattle.grid.specs.declared.Frame.{Frame}
-use Rattle.grid.specs.declared.Grid.{Grid}
-use Rattle.grid.specs.declared.Number.{Number}
-use Rattle.grid.specs.declared.Placed.{Placed}
 use Rattle.grid.specs.Sizes.{up, colorWidth, colorHeight, groupSide, lfSide, count}
 use Rattle.grid.specs.Measured.{gridOf, laid}
 use Rattle.grid.specs.Groups.{has, judge, numbered, placed, rectOf, indexAt, rectFor, indexFor, lfIndexOf}

@@ -2,32 +2,11 @@
 use Prim.Native.Nat.{ℕ, zero, suc, _+_, _-_, _*_, _/_, _%_, _^_, _≤_, _<_}
 use native.Mathlib.Decide.{decLe}
 use native.Mathlib.Omega.{arith}
-use native.Mathlib.Numerals.{add-one}
-use native.Mathlib.Nat.{
-  div-zero,
-  div-eq-of-lt,
-  add-div-right,
-  div-mul-le-self,
-  lt-div-mul-add,
-  mul-le-mul-right,
-  mul-le-mul-left,
-  mul-le-mul,
-  mul-lt-mul-of-pos-right,
-  lt-of-le-of-lt,
-  le-of-lt,
-  lt-of-mul-lt-mul-right,
-  mul-assoc,
-  mul-comm,
-  suc-mul,
-  div-le-self,
-  zero-mul,
-  mod-lt,
-  div-lt-iff-lt-mul,
-}
-use mathlib.Core.Path.{_≡_, refl, sym, _∙_, ap, subst⁻¹}
+use native.Mathlib.Nat.{div-zero, div-eq-of-lt, add-div-right, div-mul-le-self, lt-div-mul-add, mul-le-mul-right, mul-le-mul-left, mul-lt-mul-of-pos-right, lt-of-le-of-lt, le-of-lt, lt-of-mul-lt-mul-right, mul-comm, suc-mul, div-le-self, zero-mul, mod-lt, div-lt-iff-lt-mul}
+use mathlib.Core.Path.{_≡_, refl, sym, subst⁻¹}
 use mathlib.Core.Logic.{by-cases}
 use lib.Dec.{lit<}
-use lib.Pow.{pow-add, pow-pos, shl-exact, pow-mono}
+use lib.Pow.{pow-add, pow-pos, shl-exact}
 use Rattle.grid.specs.Sizes.{up}
 
 -- nothing divides into nothing

@@ -2,15 +2,15 @@
 use Prim.Native.Nat.{ℕ, _+_, _*_, _%_, _^_, _≤_, _<_}
 use native.Mathlib.Omega.{arith}
 use native.Mathlib.Nat.{le-trans}
-use mathlib.Core.Path.{_≡_, refl, sym, _∙_, ap}
+use mathlib.Core.Path.{_≡_}
 use mathlib.Core.Bool.{Bool, true, false, not, _&&_, _||_}
 use borrow.Author.Tests.{le-leb, lt-leb, lt-ltb, le-ltb, not-true, not-false}
-use lib.Dec.{leb, ltb, eqb}
+use lib.Dec.{leb, eqb}
 use Rattle.bits.specs.Refusals.{pick, refusal, none}
 use Rattle.bits.specs.declared.Refusal.{Refusal}
 use Rattle.grid.specs.declared.Frame.{Frame}
 use Rattle.grid.specs.declared.Grid.{Grid}
-use Rattle.grid.specs.Sizes.{up, sample, colorWidth, colorHeight, groupSide, lfSide, count, sectionsOf, sections}
+use Rattle.grid.specs.Sizes.{up, sample, colorWidth, colorHeight, groupSide, count, sectionsOf, sections}
 use Rattle.grid.specs.Measured.{goodRecord, zeroSize, tooMany, laid, refusedGrid, gridOf}
 use Rattle.grid.proofs.Rounding.{eight}
 use Rattle.grid.proofs.Accepted.{good, sample-le, side-bounds, count-small, groups-le, lf-le}

@@ -1,6 +1,6 @@
 -- Sample sizes, sides and counts of a frame, as exact numbers: nothing is judged here.
 use Prim.Native.Nat.{ℕ, _+_, _-_, _*_, _/_, _^_}
-use mathlib.Core.Bool.{Bool, _&&_}
+use mathlib.Core.Bool.{_&&_}
 use lib.Dec.{leb, eqb}
 use Rattle.bits.specs.Refusals.{pick}
 use Rattle.grid.specs.declared.Frame.{Frame}
