@@ -28,7 +28,8 @@ pub fn div_ceil(a: u32, b: u32) -> u32
 pub fn count(a: u32, b: u32) -> u64
     ensures { λ r. ⌜ r ≡ a * b ⌝ }
 {
-    (a as u64) * (b as u64)
+    let product = (a as u64) * (b as u64);
+    product
 }
 
 // Whether the frame has square i of a side: a refused frame has none.
@@ -60,10 +61,10 @@ fn cell(g: Grid, side: u32, i: u32) -> Rect
     requires { ⌜ has g side i ≡ true ⌝ }
     ensures { λ r. ⌜ r ≡ cellOf (g .width) side i ⌝ }
 {
-    let columns = div_ceil(g.width, side);
+    let per_row = div_ceil(g.width, side);
     Rect {
-        left: (i % columns) * side,
-        top: (i / columns) * side,
+        left: (i % per_row) * side,
+        top: (i / per_row) * side,
         width: side,
         height: side,
     }

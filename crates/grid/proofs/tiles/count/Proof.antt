@@ -4,11 +4,11 @@ use Rattle.grid.proofs.Rounding.{below}
 use Rattle.grid.proofs.tiles.count.Statement.{statement}
 use Rattle.grid.proofs.tiles.count.Tie as tie
 
-mul-result : tie.Need-mul-result
-mul-result c = record { fits = below 32 (search needs) (search needs) }
+mul-product : tie.Need-mul-product
+mul-product c = record { fits = below 32 (search needs) (search needs) }
 
 returns : tie.Need-returns
 returns c = search needs
 
 pub count-spec : {M : Type 1} → statement M
-count-spec = tie.close (tie.spec mul-result returns)
+count-spec = tie.close (tie.spec mul-product returns)
