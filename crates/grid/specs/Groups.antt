@@ -70,7 +70,7 @@ rectFor g side i = placed (judge g (has g side i)) (rectOf (g .width) (g .height
 unfoldable pub sizeOf : Placed → Size
 sizeOf p = record { width = p .rect .width; height = p .rect .height; refusal = p .refusal }
 
--- the LF group that holds a group: a row of eight groups down, a column of eight across
+-- the LF group that holds a group: eight columns and eight rows of groups to one of LF groups
 unfoldable pub lfIndexOf : Grid → ℕ → Number
 lfIndexOf g i = numbered (judge g (has g (g .side) i)) (i % g .columns / 8 + i / g .columns / 8 * g .«lf_columns»)
 

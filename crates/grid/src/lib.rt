@@ -183,6 +183,7 @@ pub fn measure(f: Frame) -> Grid
     counted(f)
 }
 
+// One of the frame's sizes in samples, or why there is none.
 fn sampled(f: Frame, n: u32, upsampling: u32) -> Number
     ensures { λ r. ⌜ r ≡ sampled f n upsampling ⌝ }
 {
@@ -211,6 +212,7 @@ pub fn sample_height(f: Frame, upsampling: u32) -> Number
     sampled(f, f.height, upsampling)
 }
 
+// A number of the grid, which is 0 beside a refusal.
 fn told(g: Grid, value: u32) -> Number
     ensures { λ r. ⌜ r ≡ told g value ⌝ }
 {
@@ -302,6 +304,7 @@ pub fn lf_group_rect(f: Frame, lf_group_idx: u32) -> Placed
     rect_for(g, g.lf_side, lf_group_idx)
 }
 
+// The size of a rectangle that was answered.
 fn size_of(p: Placed) -> Size
     ensures { λ r. ⌜ r ≡ sizeOf p ⌝ }
 {
