@@ -2,14 +2,15 @@
 use Prim.Native.Nat.{ℕ, _+_, _*_, _^_, _≤_, _<_}
 use native.Mathlib.Omega.{arith}
 use native.Mathlib.Nat.{mul-le-mul, mul-pos, le-mul-of-pos-right, pow-le-pow-right, le-trans}
-use mathlib.Core.Path.{_≡_, refl}
+use mathlib.Core.Path.{_≡_, refl, ap}
 use mathlib.Core.Bool.{Bool, true, false, _&&_, _||_}
 use mathlib.Core.Logic.{by-cases}
 use native.Mathlib.Decide.{decLe}
 use borrow.Author.Tests.{le-leb, lt-leb, leb-true, eqb-true, eqb-false, ltb-false}
 use lib.Dec.{leb, eqb}
 use lib.Pow.{pow-mono, pow-pos}
-use Rattle.bits.specs.Refusals.{pick}
+use Rattle.bits.specs.Refusals.{pick, none}
+use Rattle.bits.specs.declared.Refusal.{Refusal}
 use Rattle.grid.specs.declared.Frame.{Frame}
 use Rattle.grid.specs.declared.Grid.{Grid}
 use Rattle.grid.specs.Sizes.{up, sample, colorWidth, colorHeight, groupSide, lfSide, count, sectionsOf, sections}
@@ -152,7 +153,7 @@ accepted f e =
     }
 
 -- the same, of the grid that the check answers
-pub record Sound (g : Grid) : Type 0 where
+pub record Sound (f : Frame) (g : Grid) : Type 0 where
   pub width : 0 < g .width
   pub height : 0 < g .height
   pub side : 0 < g .side
@@ -161,9 +162,17 @@ pub record Sound (g : Grid) : Type 0 where
   pub rows : g .rows ≡ up (g .height) (g .side)
   pub some-column : 0 < g .columns
   pub lf-columns : g .«lf_columns» ≤ g .columns
-  pub groups : g .columns * g .rows ≤ 65536
+  pub product : g .groups ≡ g .columns * g .rows
+  pub groups-are : g .groups ≡ count (g .width) (g .height) (g .side)
+  pub lf-groups-are : g .«lf_groups» ≡ count (g .width) (g .height) (g .«lf_side»)
+  pub sections-are : g .sections ≡ sectionsOf (g .groups) (g .«lf_groups») (f .«num_passes»)
+  pub some-group : 1 ≤ g .groups
+  pub groups : g .groups ≤ 65536
+  pub some-lf : 1 ≤ g .«lf_groups»
+  pub lf-groups : g .«lf_groups» ≤ 65536
+  pub sections : g .sections ≤ 65536
 
-laid-sound : (f : Frame) → Accepted f → Sound (laid f)
+laid-sound : (f : Frame) → Accepted f → Sound f (laid f)
 unfolding laid
 laid-sound f a = record {
   width = a .width;
@@ -174,10 +183,33 @@ laid-sound f a = record {
   rows = refl;
   some-column = up-pos _ _ (a .width) (omega (arith, a .side));
   lf-columns = up-fewer (colorWidth f) (groupSide f) (lfSide f) (omega (arith, a .side)) (omega arith);
+  product = refl;
+  groups-are = refl;
+  lf-groups-are = refl;
+  sections-are = refl;
+  some-group = a .some-group;
   groups = a .groups;
+  some-lf = a .some-lf;
+  lf-groups = le-trans (a .lf-groups) (a .groups);
+  sections = a .sections;
 }
 
-pub sound : (f : Frame) (g : Grid) → g ≡ gridOf f → g .refusal .number ≡ 0 → Sound g
+pub sound : (f : Frame) (g : Grid) → g ≡ gridOf f → g .refusal .number ≡ 0 → Sound f g
 sound f g m z =
     let a = accepted f (rw m at z) in
     rw (m, a .grid) (laid-sound f a)
+
+ways-out : (a z m : Bool) (l : Grid) → l .refusal ≡ none
+    → (pick a (pick z (refusedGrid 9) (pick m (refusedGrid 10) l)) (refusedGrid 8) .refusal .number ≡ 0 → ⊥)
+    → pick a (pick z (refusedGrid 9) (pick m (refusedGrid 10) l)) (refusedGrid 8)
+    ≡ refusedGrid (pick a (pick z (refusedGrid 9) (pick m (refusedGrid 10) l)) (refusedGrid 8) .refusal .number)
+unfolding refusedGrid
+ways-out true false false l e h = absurd (h (ap (λ (r : Refusal). r .number) e))
+ways-out true false true l e h = refl
+ways-out true true m l e h = refl
+ways-out false z m l e h = refl
+
+-- beside a refusal all numbers are 0
+pub refused : (f : Frame) → (gridOf f .refusal .number ≡ 0 → ⊥) → gridOf f ≡ refusedGrid (gridOf f .refusal .number)
+unfolding gridOf laid
+refused f h = ways-out (goodRecord f) (zeroSize f) (tooMany f) (laid f) refl h

@@ -22,7 +22,7 @@ lf-index-le i columns lf h =
     omega (arith, div-add-mod' i columns, div-le-self (i % columns) 8, mul-le-mul (div-le-self (i / columns) 8) h)
 
 module _ (f : Frame) (g : Grid) (m : g ≡ gridOf f) (known : Bool) (r : Refusal) (er : r ≡ judge g known) where
-  pub allowed : r .number ≡ 0 → (Sound g) × (known ≡ true)
+  pub allowed : r .number ≡ 0 → (Sound f g) × (known ≡ true)
   allowed z =
       let ok = judged g known (rw er at z) in
       (sound f g m (ok .0), ok .1)
@@ -54,7 +54,7 @@ module _ (f : Frame) (g : Grid) (m : g ≡ gridOf f) (known : Bool) (r : Refusal
         let tests = and-parts _ _ (sym ek ∙ ok .1) in
         let column = ltb-true (x / g .side) (g .columns) (tests .0) in
         let row = ltb-true (y / g .side) (g .rows) (tests .1) in
-        omega (arith, digits-lt row column, mul-comm (g .columns) (g .rows), ok .0 .groups)
+        omega (arith, digits-lt row column, mul-comm (g .columns) (g .rows), ok .0 .product, ok .0 .groups)
 
 -- the frame's own refusal, whatever the point
 pub index-own : (f : Frame) (g : Grid) → g ≡ gridOf f → (x y : ℕ) → (g .refusal .number ≡ 0 → ⊥)
