@@ -1,3 +1,4 @@
 pub mod Steps
 pub mod WeightLaws
 pub mod GaborLaws
+pub mod EpfLaws

@@ -1,12 +1,12 @@
 -- Laws of reading a table step by step: a row, a table inside another, and what follows.
-use Prim.Native.Nat.{ℕ}
+use Prim.Native.Nat.{ℕ, zero, suc}
 use mathlib.Core.Path.{_≡_, refl, sym, _∙_, ap}
-use mathlib.Core.List.{List}
+use mathlib.Core.List.{List, [], _∷_}
 use mathlib.Core.Bool.{Bool}
 use Rattle.bits.specs.declared.Cursor.{Cursor}
 use Rattle.bits.specs.declared.Field.{Field}
 use Rattle.bits.specs.Codec.{Codec, field}
-use Rattle.bits.specs.Table.{Table, Out, ends, row, fails, failed, read, bind, within}
+use Rattle.bits.specs.Table.{Table, Out, ends, row, fails, failed, read, bind, within, times}
 use Rattle.bits.proofs.Tables.{read-bind, read-within}
 
 -- the table t, read at c, comes to o
@@ -33,3 +33,15 @@ module _ {R A : Type 0} {s : List ℕ} {c : Cursor} {o : Out A} where
 pub at-end : {R A : Type 0} {a : A} {s : List ℕ} {c : Cursor} → Reads {R = R} (ends a) s c (record { value = a; next = c })
 unfolding read
 at-end = record { is = refl }
+
+-- an array: one element, and then the others
+module _ {R A : Type 0} {s : List ℕ} {c : Cursor} where
+  pub times-then : (n i : ℕ) (f : ℕ → Table R A) (v : A) (next : Cursor) {vs : List A} {last : Cursor}
+      → Reads (f i) s c (record { value = v; next = next }) → Reads (times n (suc i) f) s next (record { value = vs; next = last })
+      → Reads (times (suc n) i f) s c (record { value = v ∷ vs; next = last })
+  unfolding times
+  times-then n i f v next one more = bind-then (f i) _ v next one (bind-then (times n (suc i) f) _ _ _ more at-end)
+
+  pub times-end : (i : ℕ) (f : ℕ → Table R A) → Reads (times zero i f) s c (record { value = []; next = c })
+  unfolding times
+  times-end i f = at-end
