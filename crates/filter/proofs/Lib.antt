@@ -2,3 +2,4 @@ pub mod Steps
 pub mod WeightLaws
 pub mod GaborLaws
 pub mod EpfLaws
+pub mod FilterLaws

@@ -2,3 +2,4 @@ pub mod Values
 pub mod Weights
 pub mod Gabor
 pub mod Epf
+pub mod Filter

@@ -5,6 +5,7 @@ mod gabor;
 mod settings;
 mod weights;
 
+use bits::Cursor;
 pub use epf::EdgePreservingFilter;
 pub use epf::EpfRead;
 pub use epf::read_epf_if;
@@ -14,3 +15,34 @@ pub use gabor::read_gabor_if;
 pub use settings::EpfParams;
 pub use settings::EpfSigma;
 pub use weights::is_unbalanced;
+ghost use mathlib.Core.Path.{_≡_};
+ghost use Rattle.bits.specs.Table.{read};
+ghost use Rattle.filter.specs.Filter.{restoration, filterRead};
+
+pub struct RestorationFilter {
+    pub gab: Gabor,
+    pub epf: EdgePreservingFilter,
+}
+
+// What was read of the bundle, and the cursor after it.
+pub struct FilterRead {
+    pub value: RestorationFilter,
+    pub next: Cursor,
+}
+
+// The bundle `RestorationFilter`, where it is asked for; else both default filters. `modular`: the frame's encoding is Modular.
+pub fn read_restoration_filter_if(s: &[u8], c: Cursor, on: bool, modular: bool) -> FilterRead
+    ensures { λ r. ⌜ r ≡ filterRead (read (restoration on modular) (now (s .entry)) c) ⌝ }
+{
+    let all_default = bits::read_bool_if(s, c, on, 1);
+    let live = bits::both(on, all_default.value == 0);
+    let g = read_gabor_if(s, all_default.next, live);
+    let e = read_epf_if(s, g.next, live, modular);
+    let next = bits::read_extensions_if(s, e.next, live);
+    let gab = g.value;
+    let epf = e.value;
+    FilterRead {
+        value: RestorationFilter { gab, epf },
+        next,
+    }
+}
