@@ -1,0 +1,5 @@
+pub mod Steps
+pub mod WeightLaws
+pub mod GaborLaws
+pub mod EpfLaws
+pub mod FilterLaws

@@ -1,0 +1,25 @@
+-- `gabor_of`: disabled, default or custom.
+use borrow.Author.Needs.{needs}
+use mathlib.Core.Path.{_∙_}
+use Rattle.filter.proofs.GaborLaws.{of-disabled, of-default, of-custom}
+use Rattle.filter.proofs.gabor.gabor_of.Statement.{statement}
+use Rattle.filter.proofs.gabor.gabor_of.Tie as tie
+
+gabor-disabled-requires : tie.Need-gabor-disabled-requires
+gabor-disabled-requires c κs = search needs
+
+returns : tie.Need-returns
+returns c = c .gabor-disabled .ensures ∙ of-disabled _ _ _ _ _ (c .before .if1 .taken)
+
+gabor-default-requires : tie.Need-gabor-default-requires
+gabor-default-requires c κs = search needs
+
+returns-2 : tie.Need-returns-2
+returns-2 c = c .gabor-default .ensures ∙ of-default _ _ _ _ _ (c .before .before .if1 .left) (c .before .if2 .taken)
+
+returns-3 : tie.Need-returns-3
+returns-3 c = of-custom (c .before .before .args .enabled) (c .before .before .args .own) (c .before .before .args .x) (c .before .before .args .y) (c .before .before .args .z) (c .before .if1 .left) (c .if2 .left)
+
+pub gabor-of-spec : {M : Type 1} → statement M
+gabor-of-spec =
+    tie.close (tie.spec gabor-disabled-requires returns gabor-default-requires returns-2 returns-3)

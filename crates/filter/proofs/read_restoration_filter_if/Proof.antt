@@ -1,0 +1,34 @@
+-- `read_restoration_filter_if`: one call a row or a bundle, by the law of its table.
+use borrow.Author.Needs.{needs}
+use Rattle.filter.proofs.FilterLaws.{filter-is}
+use Rattle.filter.proofs.read_restoration_filter_if.Statement.{statement}
+use Rattle.filter.proofs.read_restoration_filter_if.Tie as tie
+
+read-bool-if-requires : tie.Need-read-bool-if-requires
+read-bool-if-requires c κs = search needs
+
+both-requires : tie.Need-both-requires
+both-requires c κs = search needs
+
+read-gabor-if-requires : tie.Need-read-gabor-if-requires
+read-gabor-if-requires c κs = search needs
+
+read-epf-if-requires : tie.Need-read-epf-if-requires
+read-epf-if-requires c κs = search needs
+
+read-extensions-if-requires : tie.Need-read-extensions-if-requires
+read-extensions-if-requires c κs = search needs
+
+returns : tie.Need-returns
+returns c = filter-is (c .before .before .before .before .before .before .before .before .before .args .s .now) _ _ _ _ _ _ _ _ (c .before .before .before .before .before .before .before .read-bool-if .ensures) (c .before .before .before .before .before .both .ensures) (c .before .before .before .before .read-gabor-if .ensures) (c .before .before .before .read-epf-if .ensures) (c .before .before .read-extensions-if .ensures)
+
+pub read-restoration-filter-if-spec : {M : Type 1} → statement M
+read-restoration-filter-if-spec =
+    tie.close
+    (tie.spec
+    read-bool-if-requires
+    both-requires
+    read-gabor-if-requires
+    read-epf-if-requires
+    read-extensions-if-requires
+    returns)

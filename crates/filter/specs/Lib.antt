@@ -1,0 +1,5 @@
+pub mod Values
+pub mod Weights
+pub mod Gabor
+pub mod Epf
+pub mod Filter
