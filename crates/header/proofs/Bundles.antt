@@ -1,0 +1,118 @@
+-- One law a bundle: the answers of its calls, one after the other, are the reading of its table.
+use Prim.Native.Nat.{ℕ, _+_, _-_, _<_, _^_}
+use mathlib.Core.Path.{_≡_, refl, sym, _∙_, ap}
+use mathlib.Core.List.{List}
+use mathlib.Core.Bool.{Bool, true, false, not, _&&_, _||_}
+use lib.Dec.{eqb}
+use lib.Pow.{pow-pos}
+use Rattle.bits.specs.declared.Cursor.{Cursor}
+use Rattle.bits.specs.declared.Field.{Field}
+use Rattle.bits.specs.declared.Wide.{Wide}
+use Rattle.bits.specs.Refusals.{pick}
+use Rattle.bits.specs.Codec.{u, bool, u32, cases, u64, field, wideOf}
+use Rattle.bits.specs.Table.{Table, Out, read, bind, times}
+use Rattle.bits.proofs.Tables.{read-bind}
+use Rattle.bits.proofs.Reading.{field-lt}
+use Rattle.header.specs.declared.Facts.{Facts}
+use Rattle.header.specs.declared.opening.Opening.{Opening}
+use Rattle.header.specs.declared.shape.Quant.{Quant}
+use Rattle.header.specs.declared.shape.Crop.{Crop}
+use Rattle.header.specs.declared.blending.Blending.{Blending}
+use Rattle.header.specs.declared.blending.Decider.{Decider}
+use Rattle.header.specs.declared.closing.Closing.{Closing}
+use Rattle.header.specs.Kinds.{flagged}
+use Rattle.header.specs.Opening.{opening, upsamplings}
+use Rattle.header.specs.Shape.{places, quant, crop}
+use Rattle.header.specs.Blending.{modes, alphas, hasSource, blending}
+use Rattle.header.specs.Closing.{durations, nameLengths, closing}
+
+-- a field of n bits is below 2 ^ n, asked for or not
+pub bits-below : (s : List ℕ) (on : Bool) (n : ℕ) (c : Cursor) (f : Field) → f ≡ field s on (u n) 0 c → f .value < 2 ^ n
+unfolding field
+bits-below s true n c f e = rw e (field-lt s n c)
+bits-below s false n c f e = rw e (pow-pos n)
+
+pub opening-law : (s : List ℕ) (c : Cursor) (f : Facts) (all kind enc : Field) (fl : Wide) (yc j0 j1 j2 up : Field)
+    → all ≡ field s true bool 1 c
+    → kind ≡ field s (eqb (all .value) 0) (u 2) 0 (all .next)
+    → enc ≡ field s (eqb (all .value) 0) (u 1) 0 (kind .next)
+    → fl ≡ wideOf (field s (eqb (all .value) 0) u64 0 (enc .next))
+    → yc ≡ field s (eqb (all .value) 0 && not (f .xyb)) bool 0 (fl .next)
+    → j0 ≡ field s (eqb (yc .value) 1 && not (flagged 32 (fl .value))) (u 2) 0 (yc .next)
+    → j1 ≡ field s (eqb (yc .value) 1 && not (flagged 32 (fl .value))) (u 2) 0 (j0 .next)
+    → j2 ≡ field s (eqb (yc .value) 1 && not (flagged 32 (fl .value))) (u 2) 0 (j1 .next)
+    → up ≡ field s (eqb (all .value) 0 && not (flagged 32 (fl .value))) (u32 upsamplings) 1 (j2 .next)
+    → _≡_ {A = Out Opening} (record {
+      value = record {
+        «all_default» = all .value;
+        «frame_type» = kind .value;
+        encoding = enc .value;
+        flags = fl .value;
+        «do_ycbcr» = yc .value;
+        jpeg0 = j0 .value;
+        jpeg1 = j1 .value;
+        jpeg2 = j2 .value;
+        upsampling = up .value;
+      };
+      next = up .next;
+    }) (read (opening f) s c)
+unfolding opening read
+opening-law s c f all kind enc fl yc j0 j1 j2 up p1 p2 p3 p4 p5 p6 p7 p8 p9 =
+    let v : fl .value ≡ field s (eqb (all .value) 0) u64 0 (enc .next) .value = ap (λ (w : Wide). w .value) p4 in
+    let n : fl .next ≡ field s (eqb (all .value) 0) u64 0 (enc .next) .next = ap (λ (w : Wide). w .next) p4 in
+    rw (← p1, ← p2, ← p3, ← v, ← n, ← p5, ← p6, ← p7, ← p8, ← p9)
+
+pub quant-law : (s : List ℕ) (c : Cursor) (f : Facts) (o : Opening) (w : Bool) (d : ℕ) (shift x b : Field)
+    → w ≡ (f .xyb && eqb (o .encoding) 0) → d ≡ pick w 3 2
+    → shift ≡ field s (eqb (o .encoding) 1) (u 2) 1 c
+    → x ≡ field s (eqb (o .«all_default») 0 && w) (u 3) d (shift .next)
+    → b ≡ field s (eqb (o .«all_default») 0 && w) (u 3) 2 (x .next)
+    → _≡_ {A = Out Quant} (record { value = record { «group_size_shift» = shift .value; «x_qm_scale» = x .value; «b_qm_scale» = b .value }; next = b .next }) (read (quant f o) s c)
+unfolding quant read
+quant-law s c f o w d shift x b pw pd p1 p2 p3 = rw (← pw, ← pd, ← p1, ← p2, ← p3)
+
+pub crop-law : (s : List ℕ) (c : Cursor) (f : Facts) (o : Opening) (level cropped x y w h : Field) (l : ℕ)
+    → level ≡ field s (eqb (o .«frame_type») 1) (u 2) 0 c
+    → l ≡ pick (eqb (o .«frame_type») 1) (level .value + 1) 0
+    → cropped ≡ field s (eqb (o .«all_default») 0 && not (eqb (o .«frame_type») 1)) bool 0 (level .next)
+    → x ≡ field s (eqb (cropped .value) 1 && not (eqb (o .«frame_type») 2)) (u32 places) 0 (cropped .next)
+    → y ≡ field s (eqb (cropped .value) 1 && not (eqb (o .«frame_type») 2)) (u32 places) 0 (x .next)
+    → w ≡ field s (eqb (cropped .value) 1) (u32 places) (f .width) (y .next)
+    → h ≡ field s (eqb (cropped .value) 1) (u32 places) (f .height) (w .next)
+    → _≡_ {A = Out Crop} (record { value = record { «lf_level» = l; «have_crop» = cropped .value; x0 = x .value; y0 = y .value; width = w .value; height = h .value }; next = h .next }) (read (crop f o) s c)
+unfolding crop read
+crop-law s c f o level cropped x y w h l p1 pl p2 p3 p4 p5 p6 = rw (← p1, ← pl, ← p2, ← p3, ← p4, ← p5, ← p6)
+
+pub blending-law : (s : List ℕ) (c : Cursor) (on extra full : Bool) (d : Decider) (m a k x : Field) (has : Bool)
+    → m ≡ field s on (cases modes 5) 0 c
+    → a ≡ field s (extra && (eqb (m .value) 2 || eqb (m .value) 3)) (u32 alphas) 0 (m .next)
+    → k ≡ field s ((extra && (eqb (m .value) 2 || eqb (m .value) 3)) || eqb (m .value) 4) bool 0 (a .next)
+    → has ≡ hasSource d (m .value) full
+    → x ≡ field s (on && has) (u 2) 0 (k .next)
+    → _≡_ {A = Out Blending} (record { value = record { mode = m .value; «alpha_channel» = a .value; clamp = k .value; source = x .value }; next = x .next }) (read (blending on extra full d) s c)
+unfolding blending read
+blending-law s c on extra full d m a k x has p1 p2 p3 ph p4 = rw (← p1, ← p2, ← p3, ← ph, ← p4)
+
+pub closing-law : (s : List ℕ) (c : Cursor) (f : Facts) (o : Opening) (resets : Bool) (duration timecode last reference ct name : Field) (d e : ℕ)
+    → duration ≡ field s ((eqb (o .«all_default») 0 && (eqb (o .«frame_type») 0 || eqb (o .«frame_type») 3)) && f .animation) (u32 durations) 0 c
+    → timecode ≡ field s ((eqb (o .«all_default») 0 && (eqb (o .«frame_type») 0 || eqb (o .«frame_type») 3)) && (f .animation && f .timecodes)) (u 32) 0 (duration .next)
+    → d ≡ pick (eqb (o .«frame_type») 0) 1 0
+    → last ≡ field s (eqb (o .«all_default») 0 && (eqb (o .«frame_type») 0 || eqb (o .«frame_type») 3)) bool d (timecode .next)
+    → reference ≡ field s (eqb (o .«all_default») 0 && (not (eqb (o .«frame_type») 1) && eqb (last .value) 0)) (u 2) 0 (last .next)
+    → e ≡ pick (eqb (o .«frame_type») 0 || eqb (o .«frame_type») 3) 0 1
+    → ct ≡ field s (eqb (o .«all_default») 0 && (eqb (o .«frame_type») 2
+        || (resets && ((not (eqb (o .«frame_type») 1) && eqb (last .value) 0) && (eqb (duration .value) 0 || not (eqb (reference .value) 0)))))) bool e (reference .next)
+    → name ≡ field s (eqb (o .«all_default») 0) (u32 nameLengths) 0 (ct .next)
+    → _≡_ {A = Out Closing} (record {
+      value = record {
+        duration = duration .value;
+        timecode = timecode .value;
+        «is_last» = last .value;
+        «save_as_reference» = reference .value;
+        «save_before_ct» = ct .value;
+        «name_length» = name .value;
+      };
+      next = name .next;
+    }) (read (closing f o resets) s c)
+unfolding closing read
+closing-law s c f o resets duration timecode last reference ct name d e p1 p2 pd p3 p4 pe p5 p6 = rw (← p1, ← p2, ← pd, ← p3, ← p4, ← pe, ← p5, ← p6)

@@ -1,0 +1,3 @@
+pub mod Walks
+pub mod Bundles
+pub mod Canvas

@@ -1,0 +1,74 @@
+-- `BlendingInfo`, and what resets the canvas.
+use Prim.Native.Nat.{ℕ}
+use mathlib.Core.Path.{_≡_}
+use mathlib.Core.Bool.{Bool, true, not, _&&_, _||_}
+use mathlib.Core.List.{List, [], _∷_}
+use lib.Dec.{eqb}
+use lib.IntN.{pos, _+ℤ_}
+use lib.Signed.{leZ}
+use lib.Seq.{sets}
+use Rattle.bits.specs.declared.Choices.{Choices}
+use Rattle.bits.specs.declared.Cursor.{Cursor}
+use Rattle.bits.specs.Refusals.{pick}
+use Rattle.bits.specs.Codec.{u, bool, u32, cases, val, plus, signed}
+use Rattle.bits.specs.Table.{Table, Out, ends, row, times, read}
+use Rattle.header.specs.declared.Facts.{Facts}
+use Rattle.header.specs.declared.shape.Crop.{Crop}
+use Rattle.header.specs.declared.blending.Blending.{Blending}
+use Rattle.header.specs.declared.blending.BlendingRead.{BlendingRead}
+use Rattle.header.specs.declared.blending.Decider.{Decider}
+
+-- U32(0, 1, 2, 3 + u(2)): Replace, Add, Blend, MulAdd, Mul
+abbrev pub modes : Choices
+modes = record { d0 = val 0; d1 = val 1; d2 = val 2; d3 = plus 3 2 }
+
+-- U32(0, 1, 2, 3 + u(3))
+abbrev pub alphas : Choices
+alphas = record { d0 = val 0; d1 = val 1; d2 = val 2; d3 = plus 3 3 }
+
+-- one side: it begins at 0 or before, and ends at the image's end or behind it, in exact sums
+unfoldable pub coversSide : ℕ → ℕ → ℕ → Bool
+coversSide n size image = leZ (signed n) (pos 0) && leZ (pos image) (signed n +ℤ pos size)
+
+-- no crop, or a frame that covers the image
+unfoldable pub coversImage : Facts → Crop → Bool
+coversImage f c = eqb (c .«have_crop») 0 || (coversSide (c .x0) (c .width) (f .width) && coversSide (c .y0) (c .height) (f .height))
+
+-- a frame resets the canvas with mode Replace where it covers the image
+abbrev pub resets : ℕ → Bool → Bool
+resets mode full = eqb mode 0 && full
+
+-- The one place that says which mode decides on `source`: the colour channels go by their own mode, an extra channel by theirs.
+abbrev pub byOwn : Decider
+byOwn = record { own = true; mode = 0 }
+
+abbrev pub byColour : ℕ → Decider
+byColour mode = record { own = mathlib.Core.Bool.false; mode = mode }
+
+unfoldable pub hasSource : Decider → ℕ → Bool → Bool
+hasSource d own full = not (resets (pick (d .own) own (d .mode)) full)
+
+unfoldable pub blending : Bool → Bool → Bool → Decider → Table Blending Blending
+blending on extra full d =
+    row on (cases modes 5) 0 (λ r. r .mode) λ m.
+    let alpha : Bool = extra && (eqb m 2 || eqb m 3) in
+    row alpha (u32 alphas) 0 (λ r. r .«alpha_channel») λ a.
+    row (alpha || eqb m 4) bool 0 (λ r. r .clamp) λ k.
+    row (on && hasSource d m full) (u 2) 0 (λ r. r .source) λ x.
+    ends (record { mode = m; «alpha_channel» = a; clamp = k; source = x })
+
+-- four words a channel
+unfoldable pub words : List Blending → List ℕ
+words [] = []
+words (b ∷ bs) = b .mode ∷ b .«alpha_channel» ∷ b .clamp ∷ b .source ∷ words bs
+
+-- n extra channels alone: where they end, and what a lent table holds after them
+abbrev pub extras : Bool → ℕ → Bool → Decider → Table Blending (List Blending)
+extras on n full d = times n 0 (λ i. blending on true full d)
+
+pub record Extras (on : Bool) (n : ℕ) (full : Bool) (d : Decider) (s : List ℕ) (c r : Cursor) (before after : List ℕ) : Type 0 where
+  pub next : r ≡ read (extras on n full d) s c .next
+  pub content : after ≡ sets before 0 (words (read (extras on n full d) s c .value))
+
+abbrev pub blendingRead : Out Blending → BlendingRead
+blendingRead o = record { value = o .value; next = o .next }

@@ -1,0 +1,6 @@
+pub mod Kinds
+pub mod Arrays
+pub mod Opening
+pub mod Shape
+pub mod Blending
+pub mod Closing

@@ -1,0 +1,44 @@
+-- all_default to upsampling.
+use Prim.Native.Nat.{ℕ}
+use mathlib.Core.Bool.{Bool, true, not, _&&_}
+use lib.Dec.{eqb}
+use Rattle.bits.specs.declared.Choices.{Choices}
+use Rattle.bits.specs.Codec.{u, bool, u32, u64, val}
+use Rattle.bits.specs.Table.{Table, Out, ends, row}
+use Rattle.header.specs.declared.Facts.{Facts}
+use Rattle.header.specs.declared.opening.Opening.{Opening}
+use Rattle.header.specs.declared.opening.OpeningRead.{OpeningRead}
+use Rattle.header.specs.Kinds.{flagged}
+
+-- U32(1, 2, 4, 8)
+abbrev pub upsamplings : Choices
+upsamplings = record { d0 = val 1; d1 = val 2; d2 = val 4; d3 = val 8 }
+
+-- «all_default» isn't kept: a later writer writes it as 0
+unfoldable pub opening : Facts → Table Opening Opening
+opening f =
+    row true bool 1 (λ r. 0) λ all.
+    let on : Bool = eqb all 0 in
+    row on (u 2) 0 (λ r. r .«frame_type») λ kind.
+    row on (u 1) 0 (λ r. r .encoding) λ encoding.
+    row on u64 0 (λ r. r .flags) λ flags.
+    row (on && not (f .xyb)) bool 0 (λ r. r .«do_ycbcr») λ ycbcr.
+    let jpeg : Bool = eqb ycbcr 1 && not (flagged 32 flags) in
+    row jpeg (u 2) 0 (λ r. r .jpeg0) λ j0.
+    row jpeg (u 2) 0 (λ r. r .jpeg1) λ j1.
+    row jpeg (u 2) 0 (λ r. r .jpeg2) λ j2.
+    row (on && not (flagged 32 flags)) (u32 upsamplings) 1 (λ r. r .upsampling) λ up.
+    ends (record {
+      «all_default» = all;
+      «frame_type» = kind;
+      encoding = encoding;
+      flags = flags;
+      «do_ycbcr» = ycbcr;
+      jpeg0 = j0;
+      jpeg1 = j1;
+      jpeg2 = j2;
+      upsampling = up;
+    })
+
+abbrev pub openingRead : Out Opening → OpeningRead
+openingRead o = record { value = o .value; next = o .next }

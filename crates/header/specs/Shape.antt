@@ -1,0 +1,78 @@
+-- The group size to the frame's size, and the bundle `Passes`.
+use Prim.Native.Nat.{ℕ, _+_, _-_}
+use mathlib.Core.Bool.{Bool, true, not, _&&_}
+use mathlib.Core.List.{List}
+use lib.Dec.{eqb}
+use lib.ListN.{getD}
+use Rattle.bits.specs.declared.Choices.{Choices}
+use Rattle.bits.specs.Refusals.{pick}
+use Rattle.bits.specs.Codec.{u, bool, u32, val, plus}
+use Rattle.bits.specs.Table.{Table, Out, ends, row, bind}
+use Rattle.header.specs.declared.Facts.{Facts}
+use Rattle.header.specs.declared.opening.Opening.{Opening}
+use Rattle.header.specs.declared.shape.Passes.{Passes}
+use Rattle.header.specs.declared.shape.PassesRead.{PassesRead}
+use Rattle.header.specs.declared.shape.Quant.{Quant}
+use Rattle.header.specs.declared.shape.QuantRead.{QuantRead}
+use Rattle.header.specs.declared.shape.Crop.{Crop}
+use Rattle.header.specs.declared.shape.CropRead.{CropRead}
+use Rattle.header.specs.Arrays.{array}
+use Rattle.header.specs.Opening.{upsamplings}
+
+-- U32(1, 2, 3, 4 + u(3))
+abbrev pub passCounts : Choices
+passCounts = record { d0 = val 1; d1 = val 2; d2 = val 3; d3 = plus 4 3 }
+
+-- U32(0, 1, 2, 3 + u(1))
+abbrev pub downsamples : Choices
+downsamples = record { d0 = val 0; d1 = val 1; d2 = val 2; d3 = plus 3 1 }
+
+-- U32(0, 1, 2, u(3))
+abbrev pub lastPasses : Choices
+lastPasses = record { d0 = val 0; d1 = val 1; d2 = val 2; d3 = plus 0 3 }
+
+-- U32(u(8), 256 + u(11), 2304 + u(14), 18688 + u(30))
+abbrev pub places : Choices
+places = record { d0 = plus 0 8; d1 = plus 256 11; d2 = plus 2304 14; d3 = plus 18688 30 }
+
+-- 10 places for shifts, 4 each for the other two; those that are not sent are 0
+unfoldable pub passes : Bool → Table Passes Passes
+passes on =
+    row on (u32 passCounts) 1 (λ r. r .«num_passes») λ n.
+    row (not (eqb n 1)) (u32 downsamples) 0 (λ r. r .«num_ds») λ ds.
+    bind (array (u 2) (n - 1) 10 0 (λ r i. getD (r .shift) i 0)) λ shift.
+    bind (array (u32 upsamplings) ds 4 0 (λ r i. getD (r .downsample) i 0)) λ downsample.
+    bind (array (u32 lastPasses) ds 4 0 (λ r i. getD (r .«last_pass») i 0)) λ last.
+    ends (record { «num_passes» = n; «num_ds» = ds; shift = shift; downsample = downsample; «last_pass» = last })
+
+-- «group_size_shift» is read for Modular, the two scales for XYB and VarDct; unread, «x_qm_scale» is 3 there and 2 otherwise
+unfoldable pub quant : Facts → Opening → Table Quant Quant
+quant f o =
+    let xyb : Bool = f .xyb && eqb (o .encoding) 0 in
+    let scaled : Bool = eqb (o .«all_default») 0 && xyb in
+    row (eqb (o .encoding) 1) (u 2) 1 (λ r. r .«group_size_shift») λ shift.
+    row scaled (u 3) (pick xyb 3 2) (λ r. r .«x_qm_scale») λ x.
+    row scaled (u 3) 2 (λ r. r .«b_qm_scale») λ b.
+    ends (record { «group_size_shift» = shift; «x_qm_scale» = x; «b_qm_scale» = b })
+
+-- frame type 1 is the LF frame, 2 the reference-only frame; with no crop the frame has the image's size
+unfoldable pub crop : Facts → Opening → Table Crop Crop
+crop f o =
+    let lf : Bool = eqb (o .«frame_type») 1 in
+    row lf (u 2) 0 (λ r. r .«lf_level» - 1) λ level.
+    row (eqb (o .«all_default») 0 && not lf) bool 0 (λ r. r .«have_crop») λ cropped.
+    let placed : Bool = eqb cropped 1 && not (eqb (o .«frame_type») 2) in
+    row placed (u32 places) 0 (λ r. r .x0) λ x.
+    row placed (u32 places) 0 (λ r. r .y0) λ y.
+    row (eqb cropped 1) (u32 places) (f .width) (λ r. r .width) λ w.
+    row (eqb cropped 1) (u32 places) (f .height) (λ r. r .height) λ h.
+    ends (record { «lf_level» = pick lf (level + 1) 0; «have_crop» = cropped; x0 = x; y0 = y; width = w; height = h })
+
+abbrev pub passesRead : Out Passes → PassesRead
+passesRead o = record { value = o .value; next = o .next }
+
+abbrev pub quantRead : Out Quant → QuantRead
+quantRead o = record { value = o .value; next = o .next }
+
+abbrev pub cropRead : Out Crop → CropRead
+cropRead o = record { value = o .value; next = o .next }

@@ -1,0 +1,137 @@
+// The bundle `BlendingInfo`, of the colour channels and of each extra channel, and whether a frame resets the canvas.
+use crate::Facts;
+use crate::arrays::put;
+use crate::kinds::BlendMode;
+use crate::shape::Crop;
+use bits::Choice;
+use bits::Choices;
+use bits::Cursor;
+use bits::both;
+use bits::either;
+use bits::read_bits_if;
+use bits::read_bool_if;
+use bits::read_enum_if;
+use bits::read_u32_if;
+
+ghost use mathlib.Core.Path.{_≡_};
+ghost use Prim.Native.Nat.{_*_, _≤_, _+_, _<_};
+ghost use Rattle.bits.specs.Table.{read};
+ghost use Rattle.header.specs.Blending.{modes, alphas, coversSide, coversImage, hasSource, blending, blendingRead, Extras};
+
+pub struct BlendingInfo {
+    pub mode: BlendMode,
+    pub alpha_channel: u32,
+    pub clamp: bool,
+    pub source: u32,
+}
+
+// The same in numbers, as they are read and as an extra channel's four words have them.
+pub struct Blending {
+    pub mode: u32,
+    pub alpha_channel: u32,
+    pub clamp: u32,
+    pub source: u32,
+}
+
+pub struct BlendingRead {
+    pub value: Blending,
+    pub next: Cursor,
+}
+
+// Which mode decides on `source`: the bundle's own, or one that is given.
+pub struct Decider {
+    pub own: bool,
+    pub mode: u32,
+}
+
+// U32(0, 1, 2, 3 + u(2))
+fn mode_choices() -> Choices
+    ensures { λ r. ⌜ r ≡ modes ⌝ }
+{
+    Choices {
+        d0: Choice { base: 0, bits: 0 },
+        d1: Choice { base: 1, bits: 0 },
+        d2: Choice { base: 2, bits: 0 },
+        d3: Choice { base: 3, bits: 2 },
+    }
+}
+
+// U32(0, 1, 2, 3 + u(3))
+fn alpha_choices() -> Choices
+    ensures { λ r. ⌜ r ≡ alphas ⌝ }
+{
+    Choices {
+        d0: Choice { base: 0, bits: 0 },
+        d1: Choice { base: 1, bits: 0 },
+        d2: Choice { base: 2, bits: 0 },
+        d3: Choice { base: 3, bits: 3 },
+    }
+}
+
+// Whether one side of a frame, begun at the signed reading of n, covers the image's.
+fn covers(n: u32, size: u32, image: u32) -> bool
+    ensures { λ r. ⌜ r ≡ coversSide n size image ⌝ }
+{
+    if n % 2 == 1 {
+        return (image as u64) + (n as u64) / 2 + 1 <= (size as u64);
+    }
+    if n / 2 == 0 { image <= size } else { false }
+}
+
+// No crop, or a frame that covers the image.
+pub fn covers_image(f: Facts, c: Crop) -> bool
+    ensures { λ r. ⌜ r ≡ coversImage f c ⌝ }
+{
+    let across = covers(c.x0, c.width, f.width);
+    let down = covers(c.y0, c.height, f.height);
+    either(c.have_crop == 0, both(across, down))
+}
+
+// Whether `source` stands there: the deciding mode and the frame do not reset the canvas.
+fn has_source(d: Decider, own: u32, full: bool) -> bool
+    ensures { λ r. ⌜ r ≡ hasSource d own full ⌝ }
+{
+    if d.own { !both(own == 0, full) } else { !both(d.mode == 0, full) }
+}
+
+// The bundle, where it is asked for; extra says whether there are extra channels.
+pub fn read_blending_if(s: &[u8], c: Cursor, on: bool, extra: bool, full: bool, d: Decider) -> BlendingRead
+    ensures { λ r. ⌜ r ≡ blendingRead (read (blending on extra full d) (now (s .entry)) c) ⌝ }
+{
+    let m = read_enum_if(s, c, on, mode_choices(), 5, 0);
+    let alpha = both(extra, either(m.value == 2, m.value == 3));
+    let a = read_u32_if(s, m.next, alpha, alpha_choices(), 0);
+    let k = read_bool_if(s, a.next, either(alpha, m.value == 4), 0);
+    let source = both(on, has_source(d, m.value, full));
+    let x = read_bits_if(s, k.next, source, 2, 0);
+    let next = x.next;
+    BlendingRead {
+        value: Blending {
+            mode: m.value,
+            alpha_channel: a.value,
+            clamp: k.value,
+            source: x.value,
+        },
+        next,
+    }
+}
+
+// The bundles of n extra channels, four words each.
+pub fn read_extra_blending(s: &[u8], c: Cursor, on: bool, n: u32, full: bool, d: Decider, out: &mut [u32]) -> Cursor
+    ensures { λ r. ⌜ Extras on n full d (now (s .entry)) c r (now (out .entry)) (now (out .exit)) ⌝ }
+{
+    let mut at = c;
+    let mut i: u32 = 0;
+    while i < n {
+        let b = read_blending_if(s, at, on, true, full, d);
+        let v = b.value;
+        let k = (i as usize) * 4;
+        put(out, k, v.mode);
+        put(out, k + 1, v.alpha_channel);
+        put(out, k + 2, v.clamp);
+        put(out, k + 3, v.source);
+        at = b.next;
+        i += 1;
+    }
+    at
+}
