@@ -5,12 +5,13 @@ use mathlib.Core.List.{List}
 use mathlib.Core.Bool.{Bool, true, false, not, _&&_, _||_}
 use lib.Dec.{eqb}
 use lib.Pow.{pow-pos}
+use lib.ListN.{length, getD}
 use Rattle.bits.specs.declared.Cursor.{Cursor}
 use Rattle.bits.specs.declared.Field.{Field}
 use Rattle.bits.specs.declared.Wide.{Wide}
 use Rattle.bits.specs.Refusals.{pick}
 use Rattle.bits.specs.Codec.{u, bool, u32, cases, u64, field, wideOf}
-use Rattle.bits.specs.Table.{Table, Out, read, bind, times}
+use Rattle.bits.specs.Table.{Table, Out, ends, read, bind, times}
 use Rattle.bits.proofs.Tables.{read-bind}
 use Rattle.bits.proofs.Reading.{field-lt}
 use Rattle.header.specs.declared.Facts.{Facts}
@@ -22,7 +23,10 @@ use Rattle.header.specs.declared.blending.Decider.{Decider}
 use Rattle.header.specs.declared.closing.Closing.{Closing}
 use Rattle.header.specs.Kinds.{flagged}
 use Rattle.header.specs.Opening.{opening, upsamplings}
-use Rattle.header.specs.Shape.{places, quant, crop}
+use Rattle.header.specs.declared.shape.Passes.{Passes}
+use Rattle.header.specs.Arrays.{array, Arrayed}
+use Rattle.header.specs.Shape.{places, passCounts, downsamples, lastPasses, passes, quant, crop}
+use Rattle.header.proofs.Walks.{array-out, read-then}
 use Rattle.header.specs.Blending.{modes, alphas, hasSource, blending}
 use Rattle.header.specs.Closing.{durations, nameLengths, closing}
 
@@ -116,3 +120,45 @@ pub closing-law : (s : List ℕ) (c : Cursor) (f : Facts) (o : Opening) (resets 
     }) (read (closing f o resets) s c)
 unfolding closing read
 closing-law s c f o resets duration timecode last reference ct name d e p1 p2 pd p3 p4 pe p5 p6 = rw (← p1, ← p2, ← pd, ← p3, ← p4, ← pe, ← p5, ← p6)
+
+colS : Passes → ℕ → ℕ
+colS r i = getD (r .shift) i 0
+
+colD : Passes → ℕ → ℕ
+colD r i = getD (r .downsample) i 0
+
+colL : Passes → ℕ → ℕ
+colL r i = getD (r .«last_pass») i 0
+
+-- what is left to read after the two counts
+passesFrom : List ℕ → Bool → Field → Field → Out Passes
+passesFrom s on n ds =
+    read (
+      bind (array (u 2) (n .value - 1) 10 0 colS) λ shift.
+      bind (array (u32 upsamplings) (ds .value) 4 0 colD) λ downsample.
+      bind (array (u32 lastPasses) (ds .value) 4 0 colL) λ last.
+      ends (record { «num_passes» = n .value; «num_ds» = ds .value; shift = shift; downsample = downsample; «last_pass» = last })
+    ) s (ds .next)
+
+pub passes-law : (s : List ℕ) (c : Cursor) (on : Bool) (n ds : Field) (k : ℕ) (a b e : Cursor) (zs zd zl shift downsample last : List ℕ)
+    → n ≡ field s on (u32 passCounts) 1 c
+    → ds ≡ field s (not (eqb (n .value) 1)) (u32 downsamples) 0 (n .next)
+    → k ≡ n .value - 1
+    → length zs ≡ 10 → length zd ≡ 4 → length zl ≡ 4
+    → Arrayed (u 2) k 10 0 s (ds .next) a zs shift
+    → Arrayed (u32 upsamplings) (ds .value) 4 0 s a b zd downsample
+    → Arrayed (u32 lastPasses) (ds .value) 4 0 s b e zl last
+    → _≡_ {A = Out Passes} (record {
+      value = record { «num_passes» = n .value; «num_ds» = ds .value; shift = shift; downsample = downsample; «last_pass» = last };
+      next = e;
+    }) (read (passes on) s c)
+unfolding passes read passesFrom colS colD colL
+passes-law s c on n ds k a b e zs zd zl shift downsample last p1 p2 pk hs hd hl ws wd wl =
+    sym (
+      ap (λ (f : Field). passesFrom s on f (field s (not (eqb (f .value) 1)) (u32 downsamples) 0 (f .next))) (sym p1)
+      ∙ ap (λ (f : Field). passesFrom s on n f) (sym p2)
+      ∙ read-then (array (u 2) (n .value - 1) 10 0 colS) _ s (ds .next) (record { value = shift; next = a })
+      (array-out (u 2) (n .value - 1) 10 0 colS s (ds .next) a zs shift (rw pk at ws) hs)
+      ∙ read-then (array (u32 upsamplings) (ds .value) 4 0 colD) _ s a (record { value = downsample; next = b }) (array-out (u32 upsamplings) (ds .value) 4 0 colD s a b zd downsample wd hd)
+      ∙ read-then (array (u32 lastPasses) (ds .value) 4 0 colL) _ s b (record { value = last; next = e }) (array-out (u32 lastPasses) (ds .value) 4 0 colL s b e zl last wl hl)
+    )

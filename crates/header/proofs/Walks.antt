@@ -1,5 +1,5 @@
 -- Laws of arrays: what is left of a walk over one is what its definition has left to read.
-use Prim.Native.Nat.{ℕ, zero, suc, _+_, _-_, _≤_, _<_}
+use Prim.Native.Nat.{ℕ, zero, suc, _+_, _-_, _*_, _≤_, _<_}
 use native.Mathlib.Omega.{arith}
 use native.Mathlib.Numerals.{add-one}
 use native.Mathlib.Nat.{le-refl}
@@ -10,12 +10,16 @@ use lib.ListN.{length, set, take, drop, length-set, length-replicate, replicate}
 use lib.Seq.{sets, length-sets, sets-eq, drop-length}
 use Rattle.bits.specs.declared.Cursor.{Cursor}
 use Rattle.bits.specs.declared.Field.{Field}
-use mathlib.Core.Bool.{true}
+use mathlib.Core.Bool.{Bool, true}
 use Rattle.bits.specs.Codec.{Codec, u, field}
 use Rattle.bits.specs.Table.{Table, ends, row, fails, Out, read, bind, times}
 use Rattle.bits.proofs.Tables.{read-bind}
 use Rattle.bits.proofs.Reading.{field-lt}
+use Rattle.header.specs.declared.blending.Blending.{Blending}
+use Rattle.header.specs.declared.blending.BlendingRead.{BlendingRead}
+use Rattle.header.specs.declared.blending.Decider.{Decider}
 use Rattle.header.specs.Arrays.{element, array, Arrayed}
+use Rattle.header.specs.Blending.{blending, blendingRead, words, Extras}
 
 -- a table that repeats: its first element, then the others
 pub times-first : {R A : Type 0} (m i : ℕ) (f : ℕ → Table R A) (s : List ℕ) (c : Cursor) (o : Out A) → o ≡ read (f i) s c
@@ -84,3 +88,79 @@ sets-whole vs l e =
 
 pub byte-lt : (s : List ℕ) (c : Cursor) (f : Field) → f ≡ field s true (u 8) 0 c → f .value < 256
 byte-lt s c f e = rw e (field-lt s 8 c)
+
+-- an array reads the same whatever record it stands in
+pub array-any : {R R' : Type 0} (k : Codec) (limit d : ℕ) (col : R → ℕ → ℕ) (col' : R' → ℕ → ℕ) (count i : ℕ) (s : List ℕ) (c : Cursor)
+    → read (times count i (element k limit d col)) s c ≡ read (times count i (element k limit d col')) s c
+unfolding times read element
+array-any k limit d col col' zero i s c = refl
+array-any k limit d col col' (suc count) i s c =
+    let f = field s (ltb i limit) k d c in
+    times-first count i (element k limit d col) s c (record { value = f .value; next = f .next }) refl
+    ∙ ap (λ (o : Out (List ℕ)). record { value = f .value ∷ o .value; next = o .next }) (array-any k limit d col col' count (suc i) s (f .next))
+    ∙ sym (times-first count i (element k limit d col') s c (record { value = f .value; next = f .next }) refl)
+
+-- a table of just count words, after an array of count elements
+pub array-out : {R : Type 0} (k : Codec) (limit count d : ℕ) (col : R → ℕ → ℕ) (s : List ℕ) (c r : Cursor) (before after : List ℕ) → Arrayed k limit count d s c r before after
+    → length before ≡ count → _≡_ {A = Out (List ℕ)} (record { value = after; next = r }) (read (array k limit count d col) s c)
+array-out k limit count d col s c r before after a e =
+    let none : List ℕ → ℕ → ℕ = λ x i. 0 in
+    let o = read (array k limit count d none) s c in
+    let whole : sets before 0 (o .value) ≡ o .value = sets-whole (o .value) before (times-length count 0 (element k limit d none) s c ∙ sym e) in
+    let vals : after ≡ o .value = a .words ∙ whole in
+    let is : _≡_ {A = Out (List ℕ)} (record { value = after; next = r }) o = rw (vals, a .next) in
+    is ∙ array-any k limit d none col count 0 s c
+
+-- one table, then another, from what the first gave
+pub read-then : {R A B : Type 0} (t : Table R A) (f : A → Table R B) (s : List ℕ) (c : Cursor) (o : Out A) → o ≡ read t s c → read (bind t f) s c ≡ read (f (o .value)) s (o .next)
+read-then t f s c o e = read-bind t f s c ∙ rw (← e)
+
+-- extra channels: after i turns, four words each, what is left to read
+abbrev each : Bool → Bool → Decider → ℕ → Table Blending Blending
+each on full d i = blending on true full d
+
+-- four words one after the other
+four-at : (table rest : List ℕ) (m a k x j j1 j2 j3 j4 : ℕ) → suc j ≡ j1 → suc (suc j) ≡ j2 → suc (suc (suc j)) ≡ j3 → suc (suc (suc (suc j))) ≡ j4
+    → sets table j (m ∷ a ∷ k ∷ x ∷ rest) ≡ sets (set (set (set (set table j m) j1 a) j2 k) j3 x) j4 rest
+four-at table rest m a k x j j1 j2 j3 j4 e1 e2 e3 e4 = rw (← e1, ← e2, ← e3, ← e4)
+
+pub record LeftBlending (on : Bool) (n : ℕ) (full : Bool) (d : Decider) (s before : List ℕ) (c : Cursor) (table : List ℕ) (at : Cursor) (i : ℕ) : Type 0 where
+  pub within : i ≤ n
+  pub size : length table ≡ length before
+  pub content : sets before 0 (words (read (times n 0 (each on full d)) s c .value)) ≡ sets table (i * 4) (words (read (times (n - i) i (each on full d)) s at .value))
+  pub next : read (times n 0 (each on full d)) s c .next ≡ read (times (n - i) i (each on full d)) s at .next
+
+module _ (on : Bool) (n : ℕ) (full : Bool) (d : Decider) (s before : List ℕ) (c : Cursor) where
+  pub blending-none : LeftBlending on n full d s before c before c 0
+  blending-none =
+      let all : n - 0 ≡ n = omega arith in
+      record { within = omega arith; size = refl; content = rw all; next = rw all }
+
+  module _ (table : List ℕ) (at : Cursor) (i : ℕ) (l : LeftBlending on n full d s before c table at i) where
+    pub blending-more : i < n → (b : BlendingRead) (t1 t2 t3 t4 : List ℕ) → b ≡ blendingRead (read (blending on true full d) s at)
+        → t1 ≡ set table (i * 4) (b .value .mode) → t2 ≡ set t1 (i * 4 + 1) (b .value .«alpha_channel») → t3 ≡ set t2 (i * 4 + 2) (b .value .clamp) → t4 ≡ set t3 (i * 4 + 3) (b .value .source)
+        → LeftBlending on n full d s before c t4 (b .next) (i + 1)
+    unfolding words
+    blending-more h b t1 t2 t3 t4 e e1 e2 e3 e4 =
+        let less : n - i ≡ suc (n - (i + 1)) = omega arith in
+        let o : Out Blending = record { value = b .value; next = b .next } in
+        let eo : o ≡ read (blending on true full d) s at = ap (λ (r : BlendingRead). record { value = r .value; next = r .next }) e in
+        let is = ap (λ (m : ℕ). read (times m i (each on full d)) s at) less ∙ times-first (n - (i + 1)) i (each on full d) s at o eo in
+        let after = read (times (n - (i + 1)) (suc i) (each on full d)) s (b .next) .value in
+        let v = b .value in
+        let four = four-at table (words after) (v .mode) (v .«alpha_channel») (v .clamp) (v .source) (i * 4) (i * 4 + 1) (i * 4 + 2) (i * 4 + 3) ((i + 1) * 4) (omega arith) (omega arith) (omega arith) (omega arith) in
+        record {
+          within = omega arith;
+          size = ap length e4 ∙ length-set t3 (i * 4 + 3) _ ∙ ap length e3 ∙ length-set t2 (i * 4 + 2) _ ∙ ap length e2 ∙ length-set t1 (i * 4 + 1) _ ∙ ap length e1 ∙ length-set table (i * 4) _ ∙ l .size;
+          content = l .content ∙ ap (λ (o : Out (List Blending)). sets table (i * 4) (words (o .value))) is ∙ four ∙ rw (e4, e3, e2, e1, add-one i);
+          next = l .next ∙ ap (λ (o : Out (List Blending)). o .next) is ∙ rw (add-one i);
+        }
+
+    pub blending-all : n ≤ i → Extras on n full d s c at before table
+    unfolding times read words
+    blending-all h =
+        let none : n - i ≡ 0 = omega arith in
+        record {
+          next = sym (l .next ∙ ap (λ (m : ℕ). read (times m i (each on full d)) s at .next) none);
+          content = sym (l .content ∙ ap (λ (m : ℕ). sets table (i * 4) (words (read (times m i (each on full d)) s at .value))) none);
+        }
