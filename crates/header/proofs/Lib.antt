@@ -1,3 +1,4 @@
 pub mod Walks
 pub mod Bundles
 pub mod Canvas
+pub mod Whole

@@ -4,3 +4,5 @@ pub mod Opening
 pub mod Shape
 pub mod Blending
 pub mod Closing
+pub mod Header
+pub mod Questions

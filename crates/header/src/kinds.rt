@@ -1,6 +1,7 @@
 // The enums of a frame header and their questions. A question refuses nothing.
 ghost use mathlib.Core.Path.{_≡_};
-ghost use Rattle.header.specs.Kinds.{frameType, encoding, blendMode, isNormal, isProgressive, usesAlpha, flagged};
+ghost use lib.Dec.{eqb};
+ghost use Rattle.header.specs.Kinds.{frameType, frameTypeNumber, encoding, blendMode, isNormal, isProgressive, usesAlpha, flagged};
 
 pub enum FrameType {
     RegularFrame,
@@ -69,6 +70,18 @@ pub fn blend_mode_of(n: u32) -> BlendMode
         BlendMode::MulAdd
     } else {
         BlendMode::Mul
+    }
+}
+
+// Whether a frame type has a number.
+pub fn is_kind(t: FrameType, n: u32) -> bool
+    ensures { λ r. ⌜ r ≡ eqb (frameTypeNumber t) n ⌝ }
+{
+    match t {
+        FrameType::RegularFrame => n == 0,
+        FrameType::LfFrame => n == 1,
+        FrameType::ReferenceOnly => n == 2,
+        FrameType::SkipProgressive => n == 3,
     }
 }
 

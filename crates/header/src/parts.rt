@@ -1,0 +1,134 @@
+// The whole header in parts, read one after the other.
+use crate::Facts;
+use crate::arrays::read_bytes;
+use crate::arrays::read_u32_array;
+use crate::blending::Blending;
+use crate::blending::Decider;
+use crate::blending::covers_image;
+use crate::blending::read_blending_if;
+use crate::blending::read_extra_blending;
+use crate::closing::Closing;
+use crate::closing::read_closing;
+use crate::kinds::FrameFlags;
+use crate::opening::Opening;
+use crate::opening::read_opening;
+use crate::opening::upsampling_choices;
+use crate::shape::Crop;
+use crate::shape::Passes;
+use crate::shape::Quant;
+use crate::shape::either_number;
+use crate::shape::read_crop;
+use crate::shape::read_passes_if;
+use crate::shape::read_quant;
+use bits::Cursor;
+use bits::begin;
+use bits::both;
+use bits::either;
+use bits::read_extensions_if;
+use filter::RestorationFilter;
+use filter::read_restoration_filter_if;
+
+ghost use mathlib.Core.Path.{_≡_};
+ghost use Rattle.header.specs.Header.{sentUpsampling, shown, Fronted, Backed};
+
+// all_default to the frame's size.
+pub struct Front {
+    pub opening: Opening,
+    pub quant: Quant,
+    pub passes: Passes,
+    pub crop: Crop,
+}
+
+pub struct FrontRead {
+    pub value: Front,
+    pub upsampling_at: Cursor,
+    pub next: Cursor,
+}
+
+// Blending to the filters.
+pub struct Back {
+    pub blending: Blending,
+    pub closing: Closing,
+    pub filter: RestorationFilter,
+}
+
+pub struct BackRead {
+    pub value: Back,
+    pub blending_at: Cursor,
+    pub name_at: Cursor,
+    pub next: Cursor,
+}
+
+// How many extra channels send their upsampling: all or none.
+pub fn sent_upsampling(f: Facts, o: Opening) -> u32
+    ensures { λ r. ⌜ r ≡ sentUpsampling f o ⌝ }
+{
+    let lf = FrameFlags(o.flags).use_lf_frame();
+    either_number(both(o.all_default == 0, !lf), f.extra, 0)
+}
+
+// A normal frame, whose blending is sent.
+pub fn is_shown(o: Opening) -> bool
+    ensures { λ r. ⌜ r ≡ shown o ⌝ }
+{
+    both(o.all_default == 0, either(o.frame_type == 0, o.frame_type == 3))
+}
+
+pub fn read_front(s: &[u8], f: Facts) -> FrontRead
+    ensures { λ r. ⌜ Fronted f (now (s .entry)) r ⌝ }
+{
+    let a = read_opening(s, begin(0), f);
+    let opening = a.value;
+    let upsampling_at = a.next;
+    let mut word = [0u32; 1];
+    let u = read_u32_array(s, upsampling_at, sent_upsampling(f, opening), f.extra, upsampling_choices(), 1, &mut word);
+    let q = read_quant(s, u, f, opening);
+    let p = read_passes_if(s, q.next, both(opening.all_default == 0, opening.frame_type != 2));
+    let c = read_crop(s, p.next, f, opening);
+    let quant = q.value;
+    let passes = p.value;
+    let crop = c.value;
+    let next = c.next;
+    FrontRead {
+        value: Front {
+            opening,
+            quant,
+            passes,
+            crop,
+        },
+        upsampling_at,
+        next,
+    }
+}
+
+pub fn read_back(s: &[u8], c: Cursor, f: Facts, o: Opening, crop: Crop) -> BackRead
+    ensures { λ r. ⌜ Backed f o crop (now (s .entry)) c r ⌝ }
+{
+    let full = covers_image(f, crop);
+    let shown = is_shown(o);
+    let b = read_blending_if(s, c, shown, f.extra != 0, full, Decider { own: true, mode: 0 });
+    let blending = b.value;
+    let blending_at = b.next;
+    let mut word = [0u32; 1];
+    let mode = blending.mode;
+    let x = read_extra_blending(s, blending_at, shown, f.extra, full, Decider { own: false, mode }, &mut word);
+    let e = read_closing(s, x, f, o, both(mode == 0, full));
+    let closing = e.value;
+    let name_at = e.next;
+    let mut byte = [0u8; 1];
+    let n = read_bytes(s, name_at, closing.name_length, &mut byte);
+    let on = o.all_default == 0;
+    let r = read_restoration_filter_if(s, n, on, o.encoding == 1);
+    let filter = r.value;
+    let next = read_extensions_if(s, r.next, on);
+    BackRead {
+        value: Back {
+            blending,
+            closing,
+            filter,
+        },
+        blending_at,
+        name_at,
+        next,
+    }
+}
