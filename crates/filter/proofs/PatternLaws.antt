@@ -1,14 +1,14 @@
 -- What a filter writes of a float is what was read: the pattern of an f16's value is that f16's pattern.
-use Prim.Native.Nat.{ℕ, zero, suc, _+_, _-_, _*_, _/_, _%_, _^_, _≤_, _<_}
+use Prim.Native.Nat.{ℕ, suc, _+_, _-_, _*_, _/_, _%_, _^_, _≤_, _<_}
 use native.Mathlib.Decide.{decLe}
 use native.Mathlib.Omega.{arith}
-use native.Mathlib.Nat.{mod-lt, mul-div-cancel, lt-of-lt-of-le, lt-of-le-of-lt, le-trans, mul-le-mul-right, div-one}
-use mathlib.Core.Path.{_≡_, refl, sym, _∙_, ap}
+use native.Mathlib.Nat.{mod-lt, mul-div-cancel, mul-le-mul-right, div-one}
+use mathlib.Core.Path.{_≡_, refl, _∙_, ap}
 use mathlib.Core.Logic.{by-cases}
 use mathlib.Core.Bool.{Bool, true, false}
-use lib.Dec.{eqb, lit<, lit≤}
+use lib.Dec.{eqb, lit<}
 use lib.Pow.{pow-add, pow-mono, shl-lt, shl-shr}
-use lib.Ieee.{Float, nan, inf, fin, up, down, size}
+use lib.Ieee.{Float, fin, up, down, size}
 use lib.Ieee.Digits.{size-lt, size-le}
 use lib.Ieee.Exact.{HasValue}
 use lib.Ieee.Fits.{down-pos}
