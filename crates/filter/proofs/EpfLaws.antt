@@ -1,6 +1,6 @@
 -- Laws of the edge-preserving filter: a float's row, each group of values, and the bundle.
-use Prim.Native.Nat.{ℕ, zero, suc}
-use mathlib.Core.Path.{_≡_, refl, sym, _∙_, ap}
+use Prim.Native.Nat.{ℕ}
+use mathlib.Core.Path.{_≡_, refl, _∙_}
 use mathlib.Core.List.{List, [], _∷_}
 use mathlib.Core.Bool.{Bool, true, false, not, _&&_}
 use lib.Dec.{eqb}
@@ -11,7 +11,7 @@ use Rattle.bits.specs.declared.Field.{Field}
 use Rattle.bits.specs.Refusals.{pick}
 use Rattle.bits.specs.Half.{half}
 use Rattle.bits.specs.Codec.{u, bool, f16, field}
-use Rattle.bits.specs.Table.{Table, Out, read, bind}
+use Rattle.bits.specs.Table.{read}
 use Rattle.filter.proofs.Steps.{Reads, row-then, bind-then, within-then, times-then, times-end, at-end}
 use Rattle.filter.specs.declared.floats.FloatRead.{FloatRead}
 use Rattle.filter.specs.declared.settings.EpfSigma.{EpfSigma}

@@ -1,19 +1,18 @@
 -- Laws of the restoration filter: the bundle, and what it is where nothing is sent.
 use Prim.Native.Nat.{ℕ}
-use mathlib.Core.Path.{_≡_, refl, sym, _∙_, ap}
+use mathlib.Core.Path.{_≡_, refl, sym, _∙_}
 use mathlib.Core.List.{List}
-use mathlib.Core.Bool.{Bool, true, false, not, _&&_}
+use mathlib.Core.Bool.{Bool, true, false, _&&_}
 use lib.Dec.{eqb}
-use lib.Ieee.{round, binary32}
+use lib.Ieee.{round}
 use Rattle.bits.specs.declared.Cursor.{Cursor}
 use Rattle.bits.specs.declared.Field.{Field}
 use Rattle.bits.specs.Half.{half}
 use Rattle.bits.specs.Codec.{bool, field}
-use Rattle.bits.specs.Table.{Table, Out, read, failed, bind, within, times}
-use Rattle.bits.specs.Extensions.{extensions, lengths}
+use Rattle.bits.specs.Table.{Out, read, failed, bind, within, times}
+use Rattle.bits.specs.Extensions.{extensions}
 use Rattle.bits.proofs.Tables.{field-off, lengths-none}
 use Rattle.filter.proofs.Steps.{Reads, row-then, bind-then, within-then, at-end}
-use Rattle.filter.specs.declared.gabor.Gabor.{Gabor}
 use Rattle.filter.specs.declared.gabor.GaborRead.{GaborRead}
 use Rattle.filter.specs.declared.epf.EdgePreservingFilter.{EdgePreservingFilter}
 use Rattle.filter.specs.declared.epf.EpfRead.{EpfRead}

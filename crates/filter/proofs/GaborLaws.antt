@@ -1,8 +1,8 @@
 -- Laws of Gabor: its two fixed values, the three ways it comes out, a channel and the bundle.
 use Prim.Native.Nat.{ℕ}
-use mathlib.Core.Path.{_≡_, refl, sym, _∙_, ap}
+use mathlib.Core.Path.{_≡_, refl, _∙_}
 use mathlib.Core.List.{List}
-use mathlib.Core.Bool.{Bool, true, false, _&&_}
+use mathlib.Core.Bool.{Bool, true, _&&_}
 use lib.Dec.{eqb}
 use lib.Ieee.{Float}
 use borrow.Author.Tests.{eq-eqb, ne-eqb}
@@ -10,7 +10,7 @@ use Rattle.bits.specs.declared.Cursor.{Cursor}
 use Rattle.bits.specs.declared.Field.{Field}
 use Rattle.bits.specs.Half.{half}
 use Rattle.bits.specs.Codec.{bool, f16, field}
-use Rattle.bits.specs.Table.{Table, Out, failed, read, bind}
+use Rattle.bits.specs.Table.{failed, read}
 use Rattle.filter.proofs.Steps.{Reads, row-then, bind-then, at-end}
 use Rattle.filter.specs.declared.gabor.Gabor.{Gabor}
 use Rattle.filter.specs.declared.gabor.GaborRead.{GaborRead}

@@ -1,12 +1,12 @@
 -- Laws of reading a table step by step: a row, a table inside another, and what follows.
 use Prim.Native.Nat.{ℕ, zero, suc}
-use mathlib.Core.Path.{_≡_, refl, sym, _∙_, ap}
+use mathlib.Core.Path.{_≡_, refl, _∙_}
 use mathlib.Core.List.{List, [], _∷_}
 use mathlib.Core.Bool.{Bool}
 use Rattle.bits.specs.declared.Cursor.{Cursor}
 use Rattle.bits.specs.declared.Field.{Field}
 use Rattle.bits.specs.Codec.{Codec, field}
-use Rattle.bits.specs.Table.{Table, Out, ends, row, fails, failed, read, bind, within, times}
+use Rattle.bits.specs.Table.{Table, Out, ends, row, read, bind, within, times}
 use Rattle.bits.proofs.Tables.{read-bind, read-within}
 
 -- the table t, read at c, comes to o

@@ -1,5 +1,4 @@
 -- `EdgePreservingFilter`, as src/filter.rs reads it: a flag, and its settings.
-use Prim.Native.Nat.{ℕ}
 use mathlib.Core.Bool.{Bool, true, false, not, _&&_}
 use mathlib.Core.List.{List, [], _∷_}
 use lib.Dec.{eqb}
@@ -14,7 +13,7 @@ use Rattle.filter.specs.declared.settings.SigmaRead.{SigmaRead}
 use Rattle.filter.specs.declared.settings.EpfParams.{EpfParams}
 use Rattle.filter.specs.declared.epf.EdgePreservingFilter.{EdgePreservingFilter}
 use Rattle.filter.specs.declared.epf.EpfRead.{EpfRead}
-use Rattle.filter.specs.Values.{decimal, quotient, pattern, custom, float, floats}
+use Rattle.filter.specs.Values.{decimal, plusZero, quotient, pattern, custom, float, floats}
 
 -- 0.0, k / 7 for k from 1 to 6, 1.0
 unfoldable pub sharpDefault : List Float
@@ -31,19 +30,16 @@ sigmaDefault =
     record { «quant_mul» = decimal 46 100; «pass0_sigma_scale» = decimal 9 10; «pass2_sigma_scale» = decimal 65 10; «border_sad_mul» = quotient 2 3 }
 
 -- a disabled filter's values are all +0.0, its iterations 0
-abbrev pub zero : Float
-zero = decimal 0 1
-
 unfoldable pub epfDisabled : EdgePreservingFilter
 epfDisabled =
     record {
       enabled = false;
       params = record {
         iters = 0;
-        «sharp_lut» = zero ∷ zero ∷ zero ∷ zero ∷ zero ∷ zero ∷ zero ∷ zero ∷ [];
-        «channel_scale» = zero ∷ zero ∷ zero ∷ [];
-        sigma = record { «quant_mul» = zero; «pass0_sigma_scale» = zero; «pass2_sigma_scale» = zero; «border_sad_mul» = zero };
-        «sigma_for_modular» = zero;
+        «sharp_lut» = plusZero ∷ plusZero ∷ plusZero ∷ plusZero ∷ plusZero ∷ plusZero ∷ plusZero ∷ plusZero ∷ [];
+        «channel_scale» = plusZero ∷ plusZero ∷ plusZero ∷ [];
+        sigma = record { «quant_mul» = plusZero; «pass0_sigma_scale» = plusZero; «pass2_sigma_scale» = plusZero; «border_sad_mul» = plusZero };
+        «sigma_for_modular» = plusZero;
       };
     }
 

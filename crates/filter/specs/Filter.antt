@@ -1,5 +1,4 @@
 -- `RestorationFilter`, as the bundle of src/header.rs.
-use Prim.Native.Nat.{ℕ}
 use mathlib.Core.Bool.{Bool, _&&_}
 use lib.Dec.{eqb}
 use Rattle.bits.specs.Codec.{bool}

@@ -12,7 +12,7 @@ use Rattle.filter.specs.declared.gabor.Gabor.{Gabor}
 use Rattle.filter.specs.declared.gabor.GaborRead.{GaborRead}
 use Rattle.filter.specs.declared.gabor.Channel.{Channel}
 use Rattle.filter.specs.declared.gabor.ChannelRead.{ChannelRead}
-use Rattle.filter.specs.Values.{decimal, patternAt, custom}
+use Rattle.filter.specs.Values.{decimal, plusZero, patternAt, custom}
 use Rattle.filter.specs.Weights.{unbalanced}
 
 -- channel by channel, two weights each
@@ -28,7 +28,7 @@ gaborDefault = record { enabled = true; weights = weightsOf channelDefault chann
 
 -- a disabled filter's values are all +0.0
 abbrev pub channelZero : Channel
-channelZero = record { first = decimal 0 1; second = decimal 0 1 }
+channelZero = record { first = plusZero; second = plusZero }
 
 unfoldable pub gaborDisabled : Gabor
 gaborDisabled = record { enabled = false; weights = weightsOf channelZero channelZero channelZero }

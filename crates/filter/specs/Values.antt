@@ -17,6 +17,9 @@ use Rattle.filter.specs.declared.floats.FloatRead.{FloatRead}
 unfoldable pub decimal : ℕ → ℕ → Float
 decimal n d = round binary32 false n d
 
+abbrev pub plusZero : Float
+plusZero = decimal 0 1
+
 -- n / d as one f32 division
 unfoldable pub quotient : ℕ → ℕ → Float
 quotient n d = div binary32 (ofInt binary32 (pos n)) (ofInt binary32 (pos d))

@@ -48,8 +48,9 @@ fn epf_disabled() -> EdgePreservingFilter
 fn epf_of(params: EpfParams) -> EdgePreservingFilter
     ensures { λ r. ⌜ r ≡ epfOf params ⌝ }
 {
+    let none = epf_disabled();
     if params.iters == 0 {
-        return epf_disabled();
+        return none;
     }
     EdgePreservingFilter {
         enabled: true,

@@ -28,7 +28,7 @@ pub struct ChannelRead {
 }
 
 // `Gabor::default()`.
-pub fn gabor_default() -> Gabor
+fn gabor_default() -> Gabor
     ensures { λ r. ⌜ r ≡ gaborDefault ⌝ }
 {
     let a = 0.115169525;
@@ -41,7 +41,7 @@ pub fn gabor_default() -> Gabor
 }
 
 // A disabled filter: every weight is +0.0.
-pub fn gabor_disabled() -> Gabor
+fn gabor_disabled() -> Gabor
     ensures { λ r. ⌜ r ≡ gaborDisabled ⌝ }
 {
     let weights = [0.0f32; 6];
@@ -55,11 +55,13 @@ pub fn gabor_disabled() -> Gabor
 fn gabor_of(enabled: u32, own: u32, x: Channel, y: Channel, z: Channel) -> Gabor
     ensures { λ r. ⌜ r ≡ gaborOf enabled own x y z ⌝ }
 {
+    let none = gabor_disabled();
+    let usual = gabor_default();
     if enabled != 1 {
-        return gabor_disabled();
+        return none;
     }
     if own != 1 {
-        return gabor_default();
+        return usual;
     }
     let weights = [x.first, x.second, y.first, y.second, z.first, z.second];
     Gabor {

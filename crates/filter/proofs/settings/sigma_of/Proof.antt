@@ -1,6 +1,6 @@
 -- `sigma_of`: default, or custom with or without its quant_mul.
 use borrow.Author.Needs.{needs}
-use mathlib.Core.Path.{refl, sym, _∙_, ap}
+use mathlib.Core.Path.{_∙_}
 use Rattle.filter.proofs.EpfLaws.{sigma-default, sigma-custom}
 use Rattle.filter.proofs.settings.sigma_of.Statement.{statement}
 use Rattle.filter.proofs.settings.sigma_of.Tie as tie

@@ -1,6 +1,5 @@
 -- `part_above`: nothing where the sign is set.
 use borrow.Author.Needs.{needs}
-use mathlib.Core.Path.{sym, _∙_}
 use Rattle.filter.proofs.WeightLaws.{is-negative, is-positive}
 use Rattle.filter.proofs.weights.part_above.Statement.{statement}
 use Rattle.filter.proofs.weights.part_above.Tie as tie

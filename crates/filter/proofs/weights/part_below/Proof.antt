@@ -1,6 +1,5 @@
 -- `part_below`: nothing where the sign is clear.
 use borrow.Author.Needs.{needs}
-use mathlib.Core.Path.{sym, _∙_}
 use Rattle.filter.proofs.WeightLaws.{is-negative, is-positive}
 use Rattle.filter.proofs.weights.part_below.Statement.{statement}
 use Rattle.filter.proofs.weights.part_below.Tie as tie
