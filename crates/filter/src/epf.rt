@@ -21,7 +21,7 @@ pub struct EpfRead {
 }
 
 // A disabled filter: no iterations, and every value is +0.0.
-fn epf_disabled() -> EdgePreservingFilter
+pub fn epf_disabled() -> EdgePreservingFilter
     ensures { λ r. ⌜ r ≡ epfDisabled ⌝ }
 {
     let sharp_lut = [0.0f32; 8];

@@ -41,7 +41,7 @@ fn gabor_default() -> Gabor
 }
 
 // A disabled filter: every weight is +0.0.
-fn gabor_disabled() -> Gabor
+pub fn gabor_disabled() -> Gabor
     ensures { λ r. ⌜ r ≡ gaborDisabled ⌝ }
 {
     let weights = [0.0f32; 6];

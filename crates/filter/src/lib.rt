@@ -17,7 +17,7 @@ pub use settings::EpfSigma;
 pub use weights::is_unbalanced;
 ghost use mathlib.Core.Path.{_≡_};
 ghost use Rattle.bits.specs.Table.{read};
-ghost use Rattle.filter.specs.Filter.{restoration, filterRead};
+ghost use Rattle.filter.specs.Filter.{restoration, filterDisabled, filterRead};
 
 pub struct RestorationFilter {
     pub gab: Gabor,
@@ -45,4 +45,13 @@ pub fn read_restoration_filter_if(s: &[u8], c: Cursor, on: bool, modular: bool) 
         value: RestorationFilter { gab, epf },
         next,
     }
+}
+
+// Both filters disabled: what stands beside a refusal.
+pub fn disabled_filter() -> RestorationFilter
+    ensures { λ r. ⌜ r ≡ filterDisabled ⌝ }
+{
+    let gab = gabor::gabor_disabled();
+    let epf = epf::epf_disabled();
+    RestorationFilter { gab, epf }
 }

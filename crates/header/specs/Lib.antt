@@ -6,3 +6,4 @@ pub mod Blending
 pub mod Closing
 pub mod Header
 pub mod Questions
+pub mod Entry

@@ -7,8 +7,7 @@ use lib.IntN.{pos}
 use lib.ListN.{replicate}
 use Rattle.bits.specs.Refusals.{pick}
 use Rattle.bits.specs.Codec.{signed}
-use Rattle.filter.specs.Gabor.{gaborDisabled}
-use Rattle.filter.specs.Epf.{epfDisabled}
+use Rattle.filter.specs.Filter.{filterDisabled}
 use Rattle.grid.specs.declared.Frame.{Frame}
 use Rattle.header.specs.declared.Facts.{Facts}
 use Rattle.header.specs.declared.FrameHeader.{FrameHeader}
@@ -89,7 +88,7 @@ zeroHeader = record {
   «resets_canvas» = false;
   «save_before_ct» = false;
   «name_length» = 0;
-  «restoration_filter» = record { gab = gaborDisabled; epf = epfDisabled };
+  «restoration_filter» = filterDisabled;
 }
 
 abbrev pub isKeyframe : FrameHeader → Bool

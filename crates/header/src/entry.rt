@@ -115,3 +115,127 @@ fn assemble(f: Facts, a: Front, b: Back) -> FrameHeader
         restoration_filter,
     }
 }
+
+// What stands beside a refusal.
+fn zero_header() -> FrameHeader
+    ensures { λ r. ⌜ r ≡ zeroHeader ⌝ }
+{
+    let restoration_filter = disabled_filter();
+    let shift = [0u32; 10];
+    let downsample = [0u32; 4];
+    let last_pass = [0u32; 4];
+    let jpeg_upsampling = [0u32; 3];
+    let passes = Passes {
+        num_passes: 0,
+        num_ds: 0,
+        shift,
+        downsample,
+        last_pass,
+    };
+    let info = BlendingInfo {
+        mode: BlendMode::Replace,
+        alpha_channel: 0,
+        clamp: false,
+        source: 0,
+    };
+    FrameHeader {
+        frame_type: FrameType::RegularFrame,
+        encoding: Encoding::VarDct,
+        flags: FrameFlags(0),
+        do_ycbcr: false,
+        encoded_color_channels: 0,
+        jpeg_upsampling,
+        upsampling: 0,
+        group_size_shift: 0,
+        x_qm_scale: 0,
+        b_qm_scale: 0,
+        passes,
+        lf_level: 0,
+        have_crop: false,
+        x0: 0,
+        y0: 0,
+        width: 0,
+        height: 0,
+        blending_info: info,
+        duration: 0,
+        timecode: 0,
+        is_last: false,
+        save_as_reference: 0,
+        resets_canvas: false,
+        save_before_ct: false,
+        name_length: 0,
+        restoration_filter,
+    }
+}
+
+fn refused_header(refusal: Refusal) -> HeaderAnswer
+    ensures { λ r. ⌜ r ≡ refusedHeader refusal ⌝ }
+{
+    let header = zero_header();
+    HeaderAnswer {
+        header,
+        end: 0,
+        refusal,
+    }
+}
+
+fn bad_facts(f: Facts) -> bool
+    ensures { λ r. ⌜ r ≡ badFacts f ⌝ }
+{
+    let size = bits::either(
+        bits::either(f.width == 0, 1073741824 < f.width),
+        bits::either(f.height == 0, 1073741824 < f.height),
+    );
+    bits::either(size, 256 < f.extra)
+}
+
+// 2, 1, 3, before anything is read.
+fn judge(n: usize, f: Facts, name: usize, upsampling: usize, blending: usize) -> Refusal
+    ensures { λ r. ⌜ r ≡ judged n f name upsampling blending ⌝ }
+{
+    if 16777216 < n {
+        return refused(2, 0);
+    }
+    if bad_facts(f) {
+        return refused(1, 0);
+    }
+    let extra = f.extra as usize;
+    let short = bits::either(name < 1071, bits::either(upsampling < extra, blending < 4 * extra));
+    if short {
+        refused(3, 0)
+    } else {
+        accepted()
+    }
+}
+
+// The entry: 2, 1, 3, then the first fault in reading order. The lent buffers are written once all is known to be good.
+pub fn read_frame_header(s: &[u8], f: Facts, name: &mut [u8], upsampling: &mut [u32], blending: &mut [u32]) -> HeaderAnswer
+    ensures { λ r. ⌜ Headed f (now (s .entry)) r (now (name .entry)) (now (name .exit)) (now (upsampling .entry)) (now (upsampling .exit)) (now (blending .entry)) (now (blending .exit)) ⌝ }
+{
+    let before = judge(s.len(), f, name.len(), upsampling.len(), blending.len());
+    if before.number != 0 {
+        return refused_header(before);
+    }
+    let a = read_front(s, f);
+    let front = a.value;
+    let o = front.opening;
+    let crop = front.crop;
+    let b = read_back(s, a.next, f, o, crop);
+    let back = b.value;
+    let end = b.next;
+    let fault = end.fault;
+    if fault.number != 0 {
+        return refused_header(fault);
+    }
+    let closing = back.closing;
+    let colour = back.blending;
+    read_u32_array(s, a.upsampling_at, sent_upsampling(f, o), f.extra, upsampling_choices(), 1, upsampling);
+    read_extra_blending(s, b.blending_at, is_shown(o), f.extra, covers_image(f, crop), Decider { own: false, mode: colour.mode }, blending);
+    read_bytes(s, b.name_at, closing.name_length, name);
+    let header = assemble(f, front, back);
+    HeaderAnswer {
+        header,
+        end: end.at,
+        refusal: accepted(),
+    }
+}
