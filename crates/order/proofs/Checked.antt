@@ -1,0 +1,51 @@
+-- Laws of the check: the parts of an order, which refusal each way of the check gives, and what an acceptance says.
+use Prim.Native.Nat.{ℕ, _≤_, _<_}
+use native.Mathlib.Omega.{arith}
+use mathlib.Core.Path.{_≡_, ap}
+use mathlib.Core.List.{List}
+use mathlib.Core.Bool.{true, false, _&&_}
+use lib.ListN.{length, replicate, length-replicate, getD-replicate}
+use lib.Dec.{ltb}
+use borrow.Author.Tests.{lt-ltb, le-ltb, ltb-true, ltb-false, eq-eqb, ne-eqb}
+use Rattle.bits.specs.declared.Refusal.{Refusal}
+use Rattle.bits.specs.Refusals.{refusal, none}
+use Rattle.order.specs.Order.{allBelow, distinct, isOrder, checked, Unmarked}
+use Rattle.order.proofs.Entries.{split}
+
+abbrev pub number : Refusal → ℕ
+number r = r .number
+
+pub unmarked : Unmarked (replicate 65536 0)
+unmarked = record { size = length-replicate {A = ℕ} 65536 0; clear = λ k h. getD-replicate {A = ℕ} 65536 k 0 0 h }
+
+module _ (count : ℕ) (l : List ℕ) where
+  pub other-length : (length l ≡ count → ⊥) → false ≡ isOrder count l
+  unfolding isOrder
+  other-length h = rw (ne-eqb (length l) count h)
+
+  pub same-length : length l ≡ count → (allBelow count l && distinct l) ≡ isOrder count l
+  unfolding isOrder
+  same-length h = rw (eq-eqb (length l) count h)
+
+  pub checked-many : 65536 < count → refusal 10 0 ≡ checked count l
+  unfolding checked
+  checked-many h = rw (lt-ltb 65536 count h)
+
+  pub checked-good : count ≤ 65536 → isOrder count l ≡ true → none ≡ checked count l
+  unfolding checked
+  checked-good h t = rw (le-ltb 65536 count h, t)
+
+  pub checked-bad : count ≤ 65536 → isOrder count l ≡ false → refusal 13 0 ≡ checked count l
+  unfolding checked
+  checked-bad h t = rw (le-ltb 65536 count h, t)
+
+  -- what an acceptance says
+  pub accepted : checked count l .number ≡ 0 → (count ≤ 65536) × (isOrder count l ≡ true)
+  accepted z =
+      split (ltb 65536 count)
+      (λ t. absurd (omega (arith, ap number (checked-many (ltb-true 65536 count t)))))
+      (λ t.
+      let small : count ≤ 65536 = ltb-false 65536 count t in
+      split (isOrder count l)
+      (λ o. (small, o))
+      (λ o. absurd (omega (arith, ap number (checked-bad small o)))))

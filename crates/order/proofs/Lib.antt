@@ -1,0 +1,11 @@
+pub mod Entries
+pub mod Marks
+pub mod Checked
+pub mod Sums
+pub mod Reach
+pub mod Tables
+pub mod Inverse
+pub mod Placed
+pub mod Fill
+pub mod Inverting
+pub mod Numbers

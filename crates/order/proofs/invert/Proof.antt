@@ -1,0 +1,55 @@
+-- `invert`: the refusals in their order, then the sections placed one by one.
+use Rattle.order.proofs.Inverting.{invert-many, invert-short, invert-bad, invert-done}
+use borrow.Author.Needs.{needs}
+use Rattle.order.proofs.invert.Statement.{statement}
+use Rattle.order.proofs.invert.Tie as tie
+
+refused-requires : tie.Need-refused-requires
+refused-requires c κs = search needs
+
+returns : tie.Need-returns
+returns c =
+    let a = c .before .before .before .before .args in
+    invert-many _ (a .order .now) (a .inverse .now) _ (c .refused .ensures) (c .before .if1 .taken)
+
+refused-requires-2 : tie.Need-refused-requires-2
+refused-requires-2 c κs = search needs
+
+returns-2 : tie.Need-returns-2
+returns-2 c =
+    let a = c .before .before .before .before .before .args in
+    invert-short _ (a .order .now) (a .inverse .now) _ (c .refused2 .ensures) (c .before .before .if1 .left) (c .before .if2 .taken)
+
+check-order-requires : tie.Need-check-order-requires
+check-order-requires c κs = search needs
+
+returns-3 : tie.Need-returns-3
+returns-3 c =
+    let a = c .before .before .before .before .before .before .before .args in
+    invert-bad _ (a .order .now) (a .inverse .now) _ (c .before .before .check-order .ensures) (c .before .before .before .before .if1 .left) (c .before .before .before .if2 .left) (c .if3 .taken)
+
+inverse-into-requires : tie.Need-inverse-into-requires
+inverse-into-requires c κs = search needs
+
+same-length : tie.Need-same-length
+same-length c = search needs
+
+returns-4 : tie.Need-returns-4
+returns-4 c =
+    let a = c .before .before .before .before .before .before .before .before .before .before .before .args in
+    invert-done _ (a .order .now) (a .inverse .now) _ _ (c .before .before .before .before .before .before .check-order .ensures) (c .before .before .before .before .before .before .before .before .if1 .left) (c .before .before .before .before .before .before .before .if2 .left) (c .before .before .before .before .if3 .left)
+    (c .before .before .inverse-into .ensures)
+
+pub invert-spec : {M : Type 1} → statement M
+invert-spec =
+    tie.close
+    (tie.spec
+    refused-requires
+    returns
+    refused-requires-2
+    returns-2
+    check-order-requires
+    returns-3
+    inverse-into-requires
+    same-length
+    returns-4)

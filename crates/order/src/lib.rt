@@ -1,0 +1,204 @@
+// Orders of sections, document 01's "Sections": order[section] = sent number (the Rust's `original_to_bitstream`), and its
+// inverse[sent number] = section (`bitstream_to_original`). What a lent order must be, its inverse, and the two kinds of number, which only
+// these two tables turn into one another.
+ghost use mathlib.Core.Path.{_≡_};
+ghost use mathlib.Core.Bool.{_&&_};
+ghost use Prim.Native.Nat.{_≤_};
+ghost use lib.ListN.{length, set, take};
+ghost use Rattle.order.specs.Order.{allBelow, distinct, isOrder, checked, Unmarked};
+ghost use Rattle.order.specs.Tables.{identity, filled, placed, inverted, inverseAfter};
+ghost use Rattle.order.specs.Numbers.{entryAt, sentOf, sectionOf};
+
+// The number of a section in the frame's own sequence: LfGlobal, LfGroups, HfGlobal, then for each pass its groups.
+pub struct SectionNumber(pub u32);
+
+// The number of a section in the sequence in which it is sent.
+pub struct SentNumber(pub u32);
+
+// A word of an order table, or why there is none.
+struct Entry {
+    word: u32,
+    refusal: bits::Refusal,
+}
+
+// A section's sent number, or why there is none.
+pub struct SentAnswer {
+    pub sent: SentNumber,
+    pub refusal: bits::Refusal,
+}
+
+// The section of a sent number, or why there is none.
+pub struct SectionAnswer {
+    pub section: SectionNumber,
+    pub refusal: bits::Refusal,
+}
+
+// Whether every entry is below n and none occurs twice, by a mark for each number that has occurred: one walk.
+fn mark_all(order: &[u32], n: usize, marks: &mut [u8; 65536]) -> bool
+    requires { ⌜ (length (now order) ≡ n) × (n ≤ 65536) × Unmarked (now marks) ⌝ }
+    ensures { λ r. ⌜ r ≡ (allBelow n (now (order .entry)) && distinct (now (order .entry))) ⌝ }
+{
+    let mut i: usize = 0;
+    while i < n {
+        let k = order[i] as usize;
+        if n <= k {
+            return false;
+        }
+        if marks[k] != 0 {
+            return false;
+        }
+        marks[k] = 1;
+        i += 1;
+    }
+    true
+}
+
+// Whether the entries are a permutation of 0 to count - 1.
+fn is_order(order: &[u32], count: u32) -> bool
+    requires { ⌜ count ≤ 65536 ⌝ }
+    ensures { λ r. ⌜ r ≡ isOrder count (now (order .entry)) ⌝ }
+{
+    let n = count as usize;
+    if order.len() != n {
+        return false;
+    }
+    let mut marks = [0u8; 65536];
+    mark_all(order, n, &mut marks)
+}
+
+// Judges a lent order: over 65,536 sections is 10; not exactly count entries, or no permutation of 0 to count - 1, is 13.
+pub fn check_order(order: &[u32], count: u32) -> bits::Refusal
+    ensures { λ r. ⌜ r ≡ checked count (now (order .entry)) ⌝ }
+{
+    if 65536 < count {
+        return bits::refused(10, 0);
+    }
+    if is_order(order, count) {
+        bits::accepted()
+    } else {
+        bits::refused(13, 0)
+    }
+}
+
+// The word at an index becomes v, if the table has it.
+fn put(table: &mut [u32], at: usize, v: u32)
+    ensures { λ _. ⌜ now (table .exit) ≡ set (now (table .entry)) at v ⌝ }
+{
+    if at < table.len() {
+        table[at] = v;
+    }
+}
+
+// The first count words become 0, 1, 2, .., as far as the table goes: both orders of a table that is not permuted.
+pub fn identity_into(table: &mut [u32], count: u32)
+    ensures { λ _. ⌜ now (table .exit) ≡ filled (identity count) (now (table .entry)) ⌝ }
+{
+    let mut k: u32 = 0;
+    while k < count {
+        let i = k as usize;
+        if table.len() <= i {
+            return;
+        }
+        table[i] = k;
+        k += 1;
+    }
+}
+
+// The order's first count entries become the table's first words, as far as the table goes.
+pub fn order_into(order: &[u32], count: u32, table: &mut [u32])
+    ensures { λ _. ⌜ now (table .exit) ≡ filled (take count (now (order .entry))) (now (table .entry)) ⌝ }
+{
+    let end = count as usize;
+    let mut i: usize = 0;
+    while i < end {
+        if order.len() <= i {
+            return;
+        }
+        if table.len() <= i {
+            return;
+        }
+        table[i] = order[i];
+        i += 1;
+    }
+}
+
+// Each of the order's first count sections is written at its sent number: for an order that was checked, the inverse.
+pub fn inverse_into(order: &[u32], count: u32, inverse: &mut [u32])
+    ensures { λ _. ⌜ now (inverse .exit) ≡ placed (take count (now (order .entry))) (now (inverse .entry)) ⌝ }
+{
+    let mut j: u32 = 0;
+    while j < count {
+        let i = j as usize;
+        if order.len() <= i {
+            return;
+        }
+        put(inverse, order[i] as usize, j);
+        j += 1;
+    }
+}
+
+// The inverse of a lent order: 10, then 3 where the lent table is shorter than count, then 13; refused, the table stays as it was.
+pub fn invert(order: &[u32], count: u32, inverse: &mut [u32]) -> bits::Refusal
+    ensures { λ r. ⌜
+        (r ≡ inverted count (now (order .entry)) (now (inverse .entry)))
+        × (now (inverse .exit) ≡ inverseAfter count (now (order .entry)) (now (inverse .entry)))
+        ⌝ }
+{
+    if 65536 < count {
+        return bits::refused(10, 0);
+    }
+    if inverse.len() < count as usize {
+        return bits::refused(3, 0);
+    }
+    let refusal = check_order(order, count);
+    if refusal.number != 0 {
+        return refusal;
+    }
+    inverse_into(order, count, inverse);
+    refusal
+}
+
+// A word of an order table. Document 01 has every lent order judged whole, so this walks the table once: it takes no constant time.
+fn look(table: &[u32], count: u32, index: u32) -> Entry
+    ensures { λ r. ⌜ r ≡ entryAt (now (table .entry)) count index ⌝ }
+{
+    let refusal = check_order(table, count);
+    if refusal.number != 0 {
+        return Entry { word: 0, refusal };
+    }
+    if count <= index {
+        return Entry {
+            word: 0,
+            refusal: bits::refused(14, 0),
+        };
+    }
+    let i = index as usize;
+    Entry {
+        word: table[i],
+        refusal,
+    }
+}
+
+// From a section number to its sent number, through the order: 10, 13, then 14 where the frame has no such section.
+pub fn sent_of(order: &[u32], count: u32, section: SectionNumber) -> SentAnswer
+    ensures { λ r. ⌜ r ≡ sentOf (now (order .entry)) count section ⌝ }
+{
+    let e = look(order, count, section.0);
+    let refusal = e.refusal;
+    SentAnswer {
+        sent: SentNumber(e.word),
+        refusal,
+    }
+}
+
+// From a sent number to its section number, through the inverse: 10, 13, then 14 where nothing has that sent number.
+pub fn section_of(inverse: &[u32], count: u32, sent: SentNumber) -> SectionAnswer
+    ensures { λ r. ⌜ r ≡ sectionOf (now (inverse .entry)) count sent ⌝ }
+{
+    let e = look(inverse, count, sent.0);
+    let refusal = e.refusal;
+    SectionAnswer {
+        section: SectionNumber(e.word),
+        refusal,
+    }
+}
