@@ -1,0 +1,52 @@
+-- `group_idx_from_coord`: an accepted frame has a side, and the number of a point's group is below the count.
+use native.Mathlib.Omega.{arith}
+use borrow.Author.Needs.{needs}
+use Rattle.grid.proofs.Accepted.{sound}
+use Rattle.grid.proofs.Lookups.{index-own, index-no, index-yes, index-lt}
+use Rattle.grid.proofs.group_idx_from_coord.Statement.{statement}
+use Rattle.grid.proofs.group_idx_from_coord.Tie as tie
+
+measure-requires : tie.Need-measure-requires
+measure-requires c κs = search needs
+
+returns : tie.Need-returns
+returns c = index-own (c .before .before .before .before .args .f) _ (c .before .before .before .measure .ensures) _ _ (c .if1 .taken)
+
+div-column : tie.Need-div-column
+div-column c = sound _ _ (c .before .before .before .measure .ensures) (c .if1 .left) .side
+
+div-row : tie.Need-div-row
+div-row c = sound _ _ (c .before .before .before .measure .ensures) (c .if1 .left) .side
+
+both-requires : tie.Need-both-requires
+both-requires c κs = search needs
+
+judge-requires : tie.Need-judge-requires
+judge-requires c κs = search needs
+
+returns-2 : tie.Need-returns-2
+returns-2 c = index-no (c .before .before .before .before .before .before .before .before .before .before .args .f) _ (c .before .before .before .before .before .before .before .before .before .measure .ensures) _ _ (c .before .before .judge .ensures) (c .before .before .before .before .before .before .before .before .before .before .args .x) (c .before .before .before .before .before .before .before .before .before .before .args .y) (c .before .before .before .both .ensures) (c .if2 .taken)
+
+mul-t13 : tie.Need-mul-t13
+mul-t13 c = record { fits = omega (arith, index-lt (c .before .before .before .before .before .before .before .before .before .before .before .args .f) _ (c .before .before .before .before .before .before .before .before .before .before .measure .ensures) _ _ (c .before .before .before .judge .ensures) (c .before .before .before .before .before .before .before .before .before .before .before .args .x) (c .before .before .before .before .before .before .before .before .before .before .before .args .y) (c .before .before .before .before .both .ensures) (c .before .if2 .left)) }
+
+add-t14 : tie.Need-add-t14
+add-t14 c = record { fits = omega (arith, index-lt (c .before .before .before .before .before .before .before .before .before .before .before .args .f) _ (c .before .before .before .before .before .before .before .before .before .before .measure .ensures) _ _ (c .before .before .before .judge .ensures) (c .before .before .before .before .before .before .before .before .before .before .before .args .x) (c .before .before .before .before .before .before .before .before .before .before .before .args .y) (c .before .before .before .before .both .ensures) (c .before .if2 .left)) }
+
+returns-3 : tie.Need-returns-3
+returns-3 c = index-yes (c .before .before .before .before .before .before .before .before .before .before .before .args .f) _ (c .before .before .before .before .before .before .before .before .before .before .measure .ensures) _ _ (c .before .before .before .judge .ensures) (c .before .before .before .before .before .before .before .before .before .before .before .args .x) (c .before .before .before .before .before .before .before .before .before .before .before .args .y) (c .before .before .before .before .both .ensures) (c .before .if2 .left)
+
+pub group-idx-from-coord-spec : {M : Type 1} → statement M
+group-idx-from-coord-spec =
+    tie.close
+    (tie.spec
+    measure-requires
+    returns
+    div-column
+    div-row
+    both-requires
+    judge-requires
+    returns-2
+    mul-t13
+    add-t14
+    returns-3)

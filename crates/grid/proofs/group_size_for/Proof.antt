@@ -1,0 +1,18 @@
+-- `group_size_for`: the size of a rectangle.
+use mathlib.Core.Path.{_∙_, ap}
+use borrow.Author.Needs.{needs}
+use Rattle.grid.specs.Groups.{sizeOf}
+use Rattle.grid.proofs.group_size_for.Statement.{statement}
+use Rattle.grid.proofs.group_size_for.Tie as tie
+
+group-rect-requires : tie.Need-group-rect-requires
+group-rect-requires c κs = search needs
+
+size-of-requires : tie.Need-size-of-requires
+size-of-requires c κs = search needs
+
+returns : tie.Need-returns
+returns c = c .size-of .ensures ∙ ap sizeOf (c .before .group-rect .ensures)
+
+pub group-size-for-spec : {M : Type 1} → statement M
+group-size-for-spec = tie.close (tie.spec group-rect-requires size-of-requires returns)

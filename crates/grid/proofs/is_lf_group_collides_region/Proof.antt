@@ -1,0 +1,18 @@
+-- `is_lf_group_collides_region`: the question of a side, through the check.
+use borrow.Author.Needs.{needs}
+use Rattle.grid.specs.Groups.{touchFor}
+use Rattle.grid.proofs.Answers.{asked}
+use Rattle.grid.proofs.is_lf_group_collides_region.Statement.{statement}
+use Rattle.grid.proofs.is_lf_group_collides_region.Tie as tie
+
+measure-requires : tie.Need-measure-requires
+measure-requires c κs = search needs
+
+touch-for-requires : tie.Need-touch-for-requires
+touch-for-requires c κs = search needs
+
+returns : tie.Need-returns
+returns c = asked (λ g. touchFor g (g .«lf_side») (c .before .before .args .lf-group-idx) (c .before .before .args .region)) (c .touch-for .ensures) (c .before .measure .ensures)
+
+pub is-lf-group-collides-region-spec : {M : Type 1} → statement M
+is-lf-group-collides-region-spec = tie.close (tie.spec measure-requires touch-for-requires returns)
