@@ -1,0 +1,4 @@
+pub mod Kinds
+pub mod Sizes
+pub mod Reading
+pub mod Lookups
