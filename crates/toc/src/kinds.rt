@@ -80,22 +80,19 @@ fn has_kind(g: Grid, passes: u32, k: KindNumbers) -> bool
     bits::either(k.kind == 1, k.kind == 3)
 }
 
-// The section number of a kind, whether the frame has it or not: the sum is exact.
-pub fn section_number(g: Grid, k: KindNumbers) -> u64
+// The section number of a kind that the frame has.
+pub fn section_number(g: Grid, k: KindNumbers) -> u32
+    requires { ⌜ sectionNumber g k < 65536 ⌝ }
     ensures { λ r. ⌜ r ≡ sectionNumber g k ⌝ }
 {
     if k.kind == 2 {
-        return 1 + (k.group_idx as u64);
+        return 1 + k.group_idx;
     }
     if k.kind == 3 {
-        return 1 + (g.lf_groups as u64);
+        return 1 + g.lf_groups;
     }
     if k.kind == 4 {
-        return 1
-            + (g.lf_groups as u64)
-            + 1
-            + (k.pass_idx as u64) * (g.groups as u64)
-            + (k.group_idx as u64);
+        return 1 + g.lf_groups + 1 + k.pass_idx * g.groups + k.group_idx;
     }
     0
 }
@@ -114,7 +111,7 @@ pub fn section_of_kind(f: Frame, kind: TocGroupKind) -> SectionAnswer
             refusal,
         };
     }
-    let section = section_number(g, k) as u32;
+    let section = section_number(g, k);
     SectionAnswer {
         section: SectionNumber(section),
         refusal,
