@@ -14,7 +14,7 @@ use Rattle.grid.specs.declared.Grid.{Grid}
 use Rattle.grid.specs.Measured.{gridOf}
 use Rattle.grid.specs.Groups.{judge}
 use Rattle.grid.proofs.Accepted.{and-parts}
-use Rattle.grid.proofs.Answers.{judge-known}
+use Rattle.grid.proofs.Answers.{judge-known, judged}
 use Rattle.order.specs.declared.SectionNumber.{SectionNumber}
 use Rattle.order.specs.declared.SectionAnswer.{SectionAnswer}
 use Rattle.order.proofs.Entries.{split, and-both}
@@ -128,9 +128,27 @@ module _ (f : Frame) (g : Grid) (n : Counts f g) where
 -- a section's kind names that section
 pub section-of-kind-of : (f : Frame) (s : SectionNumber) → kindOf f s .refusal .number ≡ 0
     → _≡_ {A = SectionAnswer} (sectionOfKind f (kindOf f s .kind)) (record { section = s; refusal = none })
-section-of-kind-of f s z = ?
+unfolding kindOf
+section-of-kind-of f s z =
+    let g : Grid = gridOf f in
+    let ok = judged g (ltb (s .0) (g .sections)) z in
+    let st = kind-stands f g (counts f g refl (ok .0)) (s .0) (ltb-true (s .0) (g .sections) (ok .1)) in
+    let e : kindOf f s .kind ≡ kindAt g (s .0) = rw (eq-eqb (judge g (ltb (s .0) (g .sections)) .number) 0 z) in
+    rw e
+    (sym (of-kind-yes f g refl none (kindAt g (s .0)) (numbersOf (kindAt g (s .0))) refl true (sym (st .has)) (judge-known g true none (ok .0) refl refl) (s .0) refl (sym (st .number))))
 
 -- a kind's section has that kind
 pub kind-of-section-of : (f : Frame) (kind : TocGroupKind) → sectionOfKind f kind .refusal .number ≡ 0
     → _≡_ {A = KindAnswer} (kindOf f (sectionOfKind f kind .section)) (record { kind = kind; refusal = none })
-kind-of-section-of f kind z = ?
+unfolding sectionOfKind sectionAnswer
+kind-of-section-of f kind z =
+    let g : Grid = gridOf f in
+    let k : KindNumbers = numbersOf kind in
+    let known : Bool = hasKind g (f .«num_passes») k in
+    let ok = judged g known z in
+    let n = counts f g refl (ok .0) in
+    let i : SectionNumber = record { 0 = sectionNumber g k } in
+    let e : sectionOfKind f kind .section ≡ i = rw (eq-eqb (judge g known .number) 0 z) in
+    let low : ltb (sectionNumber g k) (g .sections) ≡ true = lt-ltb (sectionNumber g k) (g .sections) (number-below f g n k (ok .1)) in
+    rw e
+    (sym (kind-yes f g refl none i (judge-known g (ltb (sectionNumber g k) (g .sections)) none (ok .0) low refl) kind refl (sym (kind-back f g n kind (ok .1)))))

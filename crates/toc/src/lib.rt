@@ -1,6 +1,7 @@
 // The table of contents of a frame, from `src/data/toc.rs`: the kinds of section and their numbers, both entries that read a table, and
 // the look-ups from a kind, a sample or a section number. Section numbers and sent numbers are `order`'s two kinds.
 mod kinds;
+mod sizes;
 
 pub use kinds::kind_numbers;
 pub use kinds::kind_of;
