@@ -26,21 +26,29 @@ pub record Tables : Type 0 where
   pub order : List ℕ
   pub inverse : List ℕ
 
--- each of them has a word for each section
-unfoldable pub roomy : ℕ → Tables → Bool
-roomy count t =
-    (leb count (length (t .offsets)) && leb count (length (t .sizes))) && (leb count (length (t .order)) && leb count (length (t .inverse)))
+abbrev pub tables : List ℕ → List ℕ → List ℕ → List ℕ → Tables
+tables o s p i = record { offsets = o; sizes = s; order = p; inverse = i }
+
+-- four lengths, each at least the count
+unfoldable pub roomFor : ℕ → ℕ → ℕ → ℕ → ℕ → Bool
+roomFor count o s p i = (leb count o && leb count s) && (leb count p && leb count i)
+
+abbrev pub roomy : ℕ → Tables → Bool
+roomy count t = roomFor count (length (t .offsets)) (length (t .sizes)) (length (t .order)) (length (t .inverse))
 
 -- before anything is read: 2, 8, 9, 10, 3, 11, all with place 0
-unfoldable pub judged : List ℕ → Grid → ℕ → Tables → Refusal
-judged s g place t =
+unfoldable pub judgedBy : List ℕ → Grid → ℕ → Bool → Refusal
+judgedBy s g place room =
     pick (ltb 16777216 (length s))
     (refusal 2 0)
     (pick (eqb (g .refusal .number) 0)
-    (pick (roomy (g .sections) t)
+    (pick room
     (pick (leb place (8 * length s)) none (refusal 11 0))
     (refusal 3 0))
     (g .refusal))
+
+abbrev pub judged : List ℕ → Grid → ℕ → Tables → Refusal
+judged s g place t = judgedBy s g place (roomy (g .sections) t)
 
 -- then 13 for the lent order
 unfoldable pub judgedOrder : List ℕ → Grid → ℕ → List ℕ → Tables → Refusal

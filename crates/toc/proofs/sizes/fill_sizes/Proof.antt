@@ -71,11 +71,11 @@ loop-less c = search needs
 -- src/sizes.rt:98:5
 loop-again : tie.Need-loop-again Inv-loop μ-loop
 loop-again c = (
-    omega arith,
-    walking-more (c .before .before .before .before .before .before .before .before .before .before .before .before .before .before .before .before .before .before .args .s .now) _ _ _ _ _ (c .before .before .before .before .before .before .before .before .before .before .before .before .before .loop .inv .1) _ (c .before .before .before .before .before .before .before .before .before .before .read-size .ensures),
-    offsets-more (c .before .before .before .before .before .before .before .before .before .before .before .before .before .before .before .before .before .before .args .s .now) _ _ (c .before .before .before .before .before .before .before .before .before .before .before .before .before .before .before .before .before .before .args .inverse .now) _ _ (c .before .before .before .before .before .before .before .before .before .before .before .before .loop-test .taken) (omega arith) _ _ _ _ (c .before .before .before .before .before .before .before .before .put-offset .ensures) (c .before .before .before .before .before .before .before .before .before .before .before .before .before .loop .inv .1 .total) (c .before .before .before .before .before .before .before .before .before .before .before .before .before .loop .inv .2),
-    sizes-more (c .before .before .before .before .before .before .before .before .before .before .before .before .before .before .before .before .before .before .args .s .now) _ (c .before .before .before .before .before .before .before .before .before .before .before .before .before .before .before .before .before .before .args .start) (c .before .before .before .before .before .before .before .before .before .before .before .before .before .before .before .before .before .before .args .inverse .now) _ _ (c .before .before .before .before .before .before .before .before .before .before .before .before .loop-test .taken) (omega arith) _ _ _ _ (c .before .before .before .before .put-size .ensures) (walking-size (c .before .before .before .before .before .before .before .before .before .before .before .before .before .before .before .before .before .before .args .s .now) _ _ _ _ _ (c .before .before .before .before .before .before .before .before .before .before .before .before .before .loop .inv .1) _ (c .before .before .before .before .before .before .before .before .before .before .read-size .ensures)) (c .before .before .before .before .before .before .before .before .before .before .before .before .before .loop .inv .3),
-  )
+  omega arith,
+  walking-more (c .before .before .before .before .before .before .before .before .before .before .before .before .before .before .before .before .before .before .args .s .now) _ _ _ _ _ (c .before .before .before .before .before .before .before .before .before .before .before .before .before .loop .inv .1) _ (c .before .before .before .before .before .before .before .before .before .before .read-size .ensures),
+  offsets-more (c .before .before .before .before .before .before .before .before .before .before .before .before .before .before .before .before .before .before .args .s .now) _ _ (c .before .before .before .before .before .before .before .before .before .before .before .before .before .before .before .before .before .before .args .inverse .now) _ _ (c .before .before .before .before .before .before .before .before .before .before .before .before .loop-test .taken) (omega arith) _ _ _ _ (c .before .before .before .before .before .before .before .before .put-offset .ensures) (c .before .before .before .before .before .before .before .before .before .before .before .before .before .loop .inv .1 .total) (c .before .before .before .before .before .before .before .before .before .before .before .before .before .loop .inv .2),
+  sizes-more (c .before .before .before .before .before .before .before .before .before .before .before .before .before .before .before .before .before .before .args .s .now) _ (c .before .before .before .before .before .before .before .before .before .before .before .before .before .before .before .before .before .before .args .start) (c .before .before .before .before .before .before .before .before .before .before .before .before .before .before .before .before .before .before .args .inverse .now) _ _ (c .before .before .before .before .before .before .before .before .before .before .before .before .loop-test .taken) (omega arith) _ _ _ _ (c .before .before .before .before .put-size .ensures) (walking-size (c .before .before .before .before .before .before .before .before .before .before .before .before .before .before .before .before .before .before .args .s .now) _ _ _ _ _ (c .before .before .before .before .before .before .before .before .before .before .before .before .before .loop .inv .1) _ (c .before .before .before .before .before .before .before .before .before .before .read-size .ensures)) (c .before .before .before .before .before .before .before .before .before .before .before .before .before .loop .inv .3),
+)
 
 -- src/sizes.rt:80:1
 same-length : tie.Need-same-length Inv-loop μ-loop
@@ -88,9 +88,9 @@ same-length-2 c = search needs
 -- src/sizes.rt:80:1
 returns : tie.Need-returns Inv-loop μ-loop
 returns c = (
-    placing-all _ (c .before .before .before .before .before .before .args .inverse .now) (c .before .before .before .before .before .before .args .count) _ _ _ (c .before .loop .inv .2) (omega arith),
-    placing-all _ (c .before .before .before .before .before .before .args .inverse .now) (c .before .before .before .before .before .before .args .count) _ _ _ (c .before .loop .inv .3) (omega arith),
-  )
+  placing-all _ (c .before .before .before .before .before .before .args .inverse .now) (c .before .before .before .before .before .before .args .count) _ _ _ (c .before .loop .inv .2) (omega arith),
+  placing-all _ (c .before .before .before .before .before .before .args .inverse .now) (c .before .before .before .before .before .before .args .count) _ _ _ (c .before .loop .inv .3) (omega arith),
+)
 
 pub fill-sizes-spec : {M : Type 1} → statement M
 fill-sizes-spec =

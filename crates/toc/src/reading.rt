@@ -1,0 +1,144 @@
+// The two entries that read a table of contents, as `parse` of the Rust's `Toc`. The first reads the permuted flag; the second is lent
+// the order that a flag of 1 asks for, and goes on at the padding. Nothing is written before the whole table is known to be good.
+use crate::Toc;
+use crate::TocRead;
+use crate::sizes::fill_sizes;
+use crate::sizes::walk_sizes;
+use bits::Refusal;
+use grid::Frame;
+use grid::Grid;
+ghost use mathlib.Core.Path.{_≡_};
+ghost use Rattle.toc.specs.Reading.{Done, tables, roomFor, judgedBy, firstReading, secondReading};
+
+// Whether each of four tables has a word for each section.
+fn has_room(count: u32, offsets: usize, sizes: usize, order: usize, inverse: usize) -> bool
+    ensures { λ r. ⌜ r ≡ roomFor count offsets sizes order inverse ⌝ }
+{
+    let n = count as usize;
+    let words = bits::both(n <= offsets, n <= sizes);
+    let orders = bits::both(n <= order, n <= inverse);
+    bits::both(words, orders)
+}
+
+// What is refused before anything is read: 2, 8, 9, 10, 3, 11.
+fn judge_place(s: &[u8], g: Grid, place: u64, room: bool) -> Refusal
+    ensures { λ r. ⌜ r ≡ judgedBy (now (s .entry)) g place room ⌝ }
+{
+    if 16777216 < s.len() {
+        return bits::refused(2, 0);
+    }
+    let own = g.refusal;
+    if own.number != 0 {
+        return own;
+    }
+    if !room {
+        return bits::refused(3, 0);
+    }
+    let end = 8 * s.len() as u64;
+    if end < place {
+        return bits::refused(11, 0);
+    }
+    bits::accepted()
+}
+
+// First entry: the permuted flag; if 0, the sizes, and both orders are the identity; if 1, "order needed" with the next place.
+pub fn read_toc(
+    s: &[u8],
+    f: Frame,
+    place: u64,
+    offsets: &mut [u64],
+    sizes: &mut [u32],
+    order: &mut [u32],
+    inverse: &mut [u32],
+) -> TocRead
+    ensures { λ r. ⌜
+        Done (firstReading (now (s .entry)) f place (tables (now (offsets .entry)) (now (sizes .entry)) (now (order .entry)) (now (inverse .entry))))
+        (tables (now (offsets .entry)) (now (sizes .entry)) (now (order .entry)) (now (inverse .entry)))
+        r (now (offsets .exit)) (now (sizes .exit)) (now (order .exit)) (now (inverse .exit))
+        ⌝ }
+{
+    let g = grid::measure(f);
+    let count = g.sections;
+    let room = has_room(
+        count,
+        offsets.len(),
+        sizes.len(),
+        order.len(),
+        inverse.len(),
+    );
+    let refusal = judge_place(s, g, place, room);
+    if refusal.number != 0 {
+        return TocRead::Refused(refusal);
+    }
+    let flag = bits::read_bool(s, bits::begin(place));
+    let next = flag.next;
+    if flag.value != 0 {
+        return TocRead::OrderNeeded(next.at);
+    }
+    let w = walk_sizes(s, next, count);
+    let last = w.last;
+    let fault = last.fault;
+    if fault.number != 0 {
+        return TocRead::Refused(fault);
+    }
+    let start = last.at / 8;
+    order::identity_into(order, count);
+    order::identity_into(inverse, count);
+    fill_sizes(s, w.first, start, count, inverse, offsets, sizes);
+    TocRead::Table(Toc {
+        count,
+        bookmark: start,
+        total_byte_size: w.total,
+    })
+}
+
+// Second entry: a place and a lent order (13 where it is none), on from the padding; the order and its inverse are written.
+pub fn read_toc_with_order(
+    s: &[u8],
+    f: Frame,
+    place: u64,
+    lent: &[u32],
+    offsets: &mut [u64],
+    sizes: &mut [u32],
+    order: &mut [u32],
+    inverse: &mut [u32],
+) -> TocRead
+    ensures { λ r. ⌜
+        Done (secondReading (now (s .entry)) f place (now (lent .entry)) (tables (now (offsets .entry)) (now (sizes .entry)) (now (order .entry)) (now (inverse .entry))))
+        (tables (now (offsets .entry)) (now (sizes .entry)) (now (order .entry)) (now (inverse .entry)))
+        r (now (offsets .exit)) (now (sizes .exit)) (now (order .exit)) (now (inverse .exit))
+        ⌝ }
+{
+    let g = grid::measure(f);
+    let count = g.sections;
+    let room = has_room(
+        count,
+        offsets.len(),
+        sizes.len(),
+        order.len(),
+        inverse.len(),
+    );
+    let refusal = judge_place(s, g, place, room);
+    if refusal.number != 0 {
+        return TocRead::Refused(refusal);
+    }
+    let bad = order::check_order(lent, count);
+    if bad.number != 0 {
+        return TocRead::Refused(bad);
+    }
+    let w = walk_sizes(s, bits::begin(place), count);
+    let last = w.last;
+    let fault = last.fault;
+    if fault.number != 0 {
+        return TocRead::Refused(fault);
+    }
+    let start = last.at / 8;
+    order::order_into(lent, count, order);
+    order::inverse_into(lent, count, inverse);
+    fill_sizes(s, w.first, start, count, inverse, offsets, sizes);
+    TocRead::Table(Toc {
+        count,
+        bookmark: start,
+        total_byte_size: w.total,
+    })
+}
