@@ -21,6 +21,7 @@ pub record Counts (f : Frame) (g : Grid) : Type 0 where
   pub some-pass : 0 < f .«num_passes»
   pub some-section : 0 < g .sections
   pub small : g .sections ≤ 65536
+  pub few : g .groups ≤ 65536
   pub one : g .sections ≡ 1 → (g .groups ≡ 1) × (f .«num_passes» ≡ 1)
   pub several : (g .sections ≡ 1 → ⊥) → g .sections ≡ 1 + g .«lf_groups» + 1 + g .groups * f .«num_passes»
   pub side : 0 < g .side
@@ -65,6 +66,7 @@ laid-counts f a =
       some-pass = a .good .some-pass;
       some-section = some-of groups lf (f .«num_passes»);
       small = a .sections;
+      few = a .groups;
       one = one-of groups lf (f .«num_passes»);
       several = several-of groups lf (f .«num_passes»);
       side = omega (arith, a .side);

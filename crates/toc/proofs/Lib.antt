@@ -5,3 +5,4 @@ pub mod Walking
 pub mod Judging
 pub mod Filling
 pub mod Entering
+pub mod Asking

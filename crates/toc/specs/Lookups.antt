@@ -34,22 +34,20 @@ sectionOfSample f x y pass =
     sectionAnswer (judge (gridOf f) (hasSample (gridOf f) (f .«num_passes») x y pass))
     (sectionNumber (gridOf f) (numbersOf (sampleKind (gridOf f) x y pass)))
 
--- 8, 9, 10, then 3 where a table is shorter than the count, then 14 for a section number not below it
-unfoldable pub placeRefusal : Grid → List ℕ → List ℕ → ℕ → Refusal
+-- 8, 9, 10, then 3 where one of two tables is shorter than the count, then 14 for a section number not below it
+unfoldable pub placeRefusal : Grid → ℕ → ℕ → ℕ → Refusal
 placeRefusal g offsets sizes i =
     pick (eqb (g .refusal .number) 0)
-    (pick (leb (g .sections) (length offsets) && leb (g .sections) (length sizes))
-    (judge g (ltb i (g .sections)))
-    (refusal 3 0))
+    (pick (leb (g .sections) offsets && leb (g .sections) sizes) (judge g (ltb i (g .sections))) (refusal 3 0))
     (g .refusal)
 
 -- a section's offset and size, 0 beside a refusal
+unfoldable pub placeBy : Refusal → ℕ → ℕ → SectionPlace
+placeBy r offset size = record { offset = pick (eqb (r .number) 0) offset 0; size = pick (eqb (r .number) 0) size 0; refusal = r }
+
 unfoldable pub placeOf : Frame → List ℕ → List ℕ → SectionNumber → SectionPlace
-placeOf f offsets sizes section = record {
-  offset = pick (eqb (placeRefusal (gridOf f) offsets sizes (section .0) .number) 0) (getD offsets (section .0) 0) 0;
-  size = pick (eqb (placeRefusal (gridOf f) offsets sizes (section .0) .number) 0) (getD sizes (section .0) 0) 0;
-  refusal = placeRefusal (gridOf f) offsets sizes (section .0);
-}
+placeOf f offsets sizes section =
+    placeBy (placeRefusal (gridOf f) (length offsets) (length sizes) (section .0)) (getD offsets (section .0) 0) (getD sizes (section .0) 0)
 
 -- section to sent number through the order, and back through the inverse: 8, 9, 10 of the frame, then 13 and 14 as the order tables have it
 unfoldable pub sentOfSection : Frame → List ℕ → SectionNumber → SentAnswer

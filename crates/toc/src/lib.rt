@@ -1,12 +1,17 @@
 // The table of contents of a frame, from `src/data/toc.rs`: the kinds of section and their numbers, both entries that read a table, and
 // the look-ups from a kind, a sample or a section number. Section numbers and sent numbers are `order`'s two kinds.
 mod kinds;
+mod lookups;
 mod reading;
 mod sizes;
 
 pub use kinds::kind_numbers;
 pub use kinds::kind_of;
 pub use kinds::section_of_kind;
+pub use lookups::section_at;
+pub use lookups::section_of_sample;
+pub use lookups::section_of_sent;
+pub use lookups::sent_of_section;
 pub use reading::read_toc;
 pub use reading::read_toc_with_order;
 
