@@ -6,3 +6,4 @@ pub mod Judging
 pub mod Filling
 pub mod Entering
 pub mod Asking
+pub mod Accepted
