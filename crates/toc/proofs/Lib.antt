@@ -7,3 +7,4 @@ pub mod Filling
 pub mod Entering
 pub mod Asking
 pub mod Accepted
+pub mod Found
