@@ -25,7 +25,7 @@ use Rattle.order.proofs.Checked.{number, accepted}
 use Rattle.order.proofs.Reach.{order-length}
 use Rattle.order.proofs.Inverse.{identity-order, identity-inverse}
 use Rattle.order.proofs.Placed.{placed-inverse}
-use Rattle.toc.specs.declared.sizes.Walk.{Walk}
+use Rattle.toc.specs.declared.reading.Walk.{Walk}
 use Rattle.toc.specs.declared.Toc.{Toc}
 use Rattle.toc.specs.declared.TocRead.{TocRead}
 use Rattle.toc.specs.declared.TocRead.the-variants.{Table, OrderNeeded, Refused}

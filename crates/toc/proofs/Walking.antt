@@ -22,7 +22,7 @@ use Rattle.order.specs.Tables.{tabulate, placedBy}
 use Rattle.order.specs.Sums.{sumTo}
 use Rattle.order.proofs.Tables.{tabulate-ext}
 use Rattle.order.proofs.Placed.{Placing, placing-more}
-use Rattle.toc.specs.declared.sizes.Walk.{Walk}
+use Rattle.toc.specs.declared.reading.Walk.{Walk}
 use Rattle.toc.specs.Sizes.{sizeChoices, sizeRow, sizeRows}
 use Rattle.toc.specs.Walks.{cursorAt, sizeAt, offsetAt, padded, walked}
 

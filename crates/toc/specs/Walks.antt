@@ -5,7 +5,7 @@ use mathlib.Core.Bool.{true}
 use Rattle.bits.specs.declared.Cursor.{Cursor}
 use Rattle.bits.specs.Codec.{u32, padding, field}
 use Rattle.order.specs.Sums.{sumTo}
-use Rattle.toc.specs.declared.sizes.Walk.{Walk}
+use Rattle.toc.specs.declared.reading.Walk.{Walk}
 use Rattle.toc.specs.Sizes.{sizeChoices}
 
 -- the cursor after k sizes

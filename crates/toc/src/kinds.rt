@@ -1,4 +1,5 @@
-// The kind of a section and the section of a kind, as `group_index_bitstream_order` of the Rust has them; where that panics, refusal 14.
+// The kind of a section, and the section of a kind or of a sample, as `group_index_bitstream_order` of the Rust has them; where that panics,
+// refusal 14. No table is needed, and each takes constant time.
 use crate::KindAnswer;
 use crate::KindNumbers;
 use crate::TocGroupKind;
@@ -10,8 +11,9 @@ use order::SectionNumber;
 ghost use mathlib.Core.Path.{_≡_};
 ghost use Prim.Native.Nat.{_<_};
 ghost use Rattle.grid.specs.Measured.{gridOf};
-ghost use Rattle.grid.specs.Groups.{judge};
+ghost use Rattle.grid.specs.Groups.{judge, indexAt};
 ghost use Rattle.toc.specs.Kinds.{numbersOf, hasKind, sectionNumber, kindAt, sectionAnswer, sectionOfKind, kindOf};
+ghost use Rattle.toc.specs.Lookups.{sampleKind, hasSample, sectionOfSample};
 
 // A kind's number and values.
 pub fn kind_numbers(kind: TocGroupKind) -> KindNumbers
@@ -81,7 +83,7 @@ fn has_kind(g: Grid, passes: u32, k: KindNumbers) -> bool
 }
 
 // The section number of a kind that the frame has.
-pub fn section_number(g: Grid, k: KindNumbers) -> u32
+fn section_number(g: Grid, k: KindNumbers) -> u32
     requires { ⌜ sectionNumber g k < 65536 ⌝ }
     ensures { λ r. ⌜ r ≡ sectionNumber g k ⌝ }
 {
@@ -158,4 +160,49 @@ pub fn kind_of(f: Frame, section: SectionNumber) -> KindAnswer
     }
     let kind = kind_at(g, i);
     KindAnswer { kind, refusal }
+}
+
+// Whether the sample lies in the colour sample size, and the frame has the pass.
+fn has_sample(g: Grid, passes: u32, x: u32, y: u32, pass: u32) -> bool
+    ensures { λ r. ⌜ r ≡ hasSample g passes x y pass ⌝ }
+{
+    let inside = bits::both(x < g.width, y < g.height);
+    bits::both(inside, pass < passes)
+}
+
+// The kind of the section that holds a sample in a pass.
+fn sample_kind(g: Grid, x: u32, y: u32, pass: u32) -> TocGroupKind
+    requires { ⌜ (0 < g .side) × (indexAt (g .columns) (g .side) x y < 65536) ⌝ }
+    ensures { λ r. ⌜ r ≡ sampleKind g x y pass ⌝ }
+{
+    if g.sections == 1 {
+        return TocGroupKind::All;
+    }
+    let side = g.side;
+    let group_idx = (y / side) * g.columns + x / side;
+    TocGroupKind::GroupPass {
+        pass_idx: pass,
+        group_idx,
+    }
+}
+
+// A sample and a pass to the number of their section: 8, 9, 10, then 14.
+pub fn section_of_sample(f: Frame, x: u32, y: u32, pass: u32) -> SectionAnswer
+    ensures { λ r. ⌜ r ≡ sectionOfSample f x y pass ⌝ }
+{
+    let g = grid::measure(f);
+    let known = has_sample(g, f.num_passes, x, y, pass);
+    let refusal = judge(g, known);
+    if refusal.number != 0 {
+        return SectionAnswer {
+            section: SectionNumber(0),
+            refusal,
+        };
+    }
+    let k = kind_numbers(sample_kind(g, x, y, pass));
+    let section = section_number(g, k);
+    SectionAnswer {
+        section: SectionNumber(section),
+        refusal,
+    }
 }

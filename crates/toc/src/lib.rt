@@ -3,13 +3,12 @@
 mod kinds;
 mod lookups;
 mod reading;
-mod sizes;
 
 pub use kinds::kind_numbers;
 pub use kinds::kind_of;
 pub use kinds::section_of_kind;
+pub use kinds::section_of_sample;
 pub use lookups::section_at;
-pub use lookups::section_of_sample;
 pub use lookups::section_of_sent;
 pub use lookups::sent_of_section;
 pub use reading::read_toc;

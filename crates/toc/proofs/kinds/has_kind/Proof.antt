@@ -3,32 +3,22 @@ use borrow.Author.Needs.{needs}
 use Rattle.toc.proofs.OfKinds.{has-one, has-lf, has-pass, has-global}
 use Rattle.toc.proofs.kinds.has_kind.Statement.{statement}
 use Rattle.toc.proofs.kinds.has_kind.Tie as tie
-use Rattle.toc.proofs.kinds.has_kind.Reads as reads
-use Rattle.toc.proofs.kinds.has_kind.Lts as lts
-use Rattle.bits.proofs.both.Reads as both-reads
-use Rattle.bits.proofs.either.Reads as either-reads
 
--- src/kinds.rt:72:9
 returns : tie.Need-returns
 returns c = has-one (c .before .before .before .args .g) (c .before .before .before .args .passes) (c .before .before .before .args .k) (c .before .if1 .taken)
 
--- src/kinds.rt:75:9
 returns-2 : tie.Need-returns-2
 returns-2 c = has-lf (c .before .before .before .before .before .before .args .g) (c .before .before .before .before .before .before .args .passes) (c .before .before .before .before .before .before .args .k) (c .before .before .before .before .if1 .left) (c .before .before .if2 .taken)
 
--- src/kinds.rt:78:9
 both-requires : tie.Need-both-requires
 both-requires c κs = search needs
 
--- src/kinds.rt:78:9
 returns-3 : tie.Need-returns-3
 returns-3 c = has-pass (c .before .before .before .before .before .before .before .before .before .before .args .g) (c .before .before .before .before .before .before .before .before .before .before .args .passes) (c .before .before .before .before .before .before .before .before .before .before .args .k) (c .before .before .before .before .before .before .before .before .if1 .left) (c .before .before .before .before .before .before .if2 .left) (c .before .before .before .before .if3 .taken) _ (c .both .ensures)
 
--- src/kinds.rt:80:5
 either-requires : tie.Need-either-requires
 either-requires c κs = search needs
 
--- src/kinds.rt:68:1
 returns-4 : tie.Need-returns-4
 returns-4 c = has-global (c .before .before .before .before .before .before .before .before .before .args .g) (c .before .before .before .before .before .before .before .before .before .args .passes) (c .before .before .before .before .before .before .before .before .before .args .k) (c .before .before .before .before .before .before .before .if1 .left) (c .before .before .before .before .before .if2 .left) (c .before .before .before .if3 .left) _ (c .either .ensures)
 

@@ -3,37 +3,25 @@ use borrow.Author.Needs.{needs}
 use Rattle.toc.proofs.Asking.{place-frame, place-short, place-judged}
 use Rattle.toc.proofs.lookups.judge_section.Statement.{statement}
 use Rattle.toc.proofs.lookups.judge_section.Tie as tie
-use Rattle.toc.proofs.lookups.judge_section.Reads as reads
-use Rattle.toc.proofs.lookups.judge_section.Lts as lts
-use Rattle.bits.proofs.both.Reads as both-reads
-use Rattle.bits.proofs.refused.Reads as refused-reads
-use Rattle.toc.proofs.kinds.judge.Reads as judge-reads
 
--- src/lookups.rt:71:9
 returns : tie.Need-returns
 returns c = place-frame (c .before .before .before .args .g) (c .before .before .before .args .offsets) (c .before .before .before .args .sizes) (c .before .before .before .args .i) (c .if1 .taken)
 
--- src/lookups.rt:73:13
 cast-n : tie.Need-cast-n
 cast-n c = search needs
 
--- src/lookups.rt:74:9
 both-requires : tie.Need-both-requires
 both-requires c κs = search needs
 
--- src/lookups.rt:75:9
 refused-requires : tie.Need-refused-requires
 refused-requires c κs = search needs
 
--- src/lookups.rt:75:9
 returns-2 : tie.Need-returns-2
 returns-2 c = place-short (c .before .before .before .before .before .before .before .args .g) (c .before .before .before .before .before .before .before .args .offsets) (c .before .before .before .before .before .before .before .args .sizes) (c .before .before .before .before .before .before .before .args .i) (c .before .before .before .before .if1 .left) _ (c .before .before .both .ensures) _ (c .before .if2 .taken) (c .refused .ensures)
 
--- src/lookups.rt:77:5
 judge-requires : tie.Need-judge-requires
 judge-requires c κs = search needs
 
--- src/lookups.rt:66:1
 returns-3 : tie.Need-returns-3
 returns-3 c = place-judged (c .before .before .before .before .before .before .before .before .args .g) (c .before .before .before .before .before .before .before .before .args .offsets) (c .before .before .before .before .before .before .before .before .args .sizes) (c .before .before .before .before .before .before .before .before .args .i) (c .before .before .before .before .before .if1 .left) _ (c .before .before .before .both .ensures) _ (c .before .before .if2 .left) (c .judge .ensures)
 

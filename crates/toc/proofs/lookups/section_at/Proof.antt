@@ -4,44 +4,31 @@ use lib.ListN.{length}
 use Rattle.toc.proofs.Asking.{place-inside, place-no, place-yes}
 use Rattle.toc.proofs.lookups.section_at.Statement.{statement}
 use Rattle.toc.proofs.lookups.section_at.Tie as tie
-use Rattle.toc.proofs.lookups.section_at.Reads as reads
-use Rattle.toc.proofs.lookups.section_at.Lts as lts
-use Rattle.grid.proofs.measure.Reads as measure-reads
-use Rattle.toc.proofs.lookups.judge_section.Reads as judge-section-reads
 
--- src/lookups.rt:84:9
 measure-requires : tie.Need-measure-requires
 measure-requires c κs = search needs
 
--- src/lookups.rt:86:9
 judge-section-requires : tie.Need-judge-section-requires
 judge-section-requires c κs = search needs
 
--- src/lookups.rt:88:9
 returns : tie.Need-returns
 returns c = place-no (c .before .before .before .before .before .before .args .f) (c .before .before .before .before .before .before .args .offsets .now) (c .before .before .before .before .before .before .args .sizes .now) (c .before .before .before .before .before .before .args .section) _ (c .before .before .before .measure .ensures) _ (c .before .before .judge-section .ensures) (c .if1 .taken)
 
--- src/lookups.rt:94:14
 cast-at : tie.Need-cast-at
 cast-at c = search needs
 
--- src/lookups.rt:96:17
 mul-t9 : tie.Need-mul-t9
 mul-t9 c = search needs
 
--- src/lookups.rt:96:17
 shared-slice-read-t13 : tie.Need-shared-slice-read-t13
 shared-slice-read-t13 c = place-inside _ (length (c .before .before .before .before .before .before .before .args .offsets .now)) (length (c .before .before .before .before .before .before .before .args .sizes .now)) (c .before .before .before .before .before .before .before .args .section .0) _ (c .before .before .before .judge-section .ensures) (c .before .if1 .left) .0
 
--- src/lookups.rt:97:15
 mul-t10 : tie.Need-mul-t10
 mul-t10 c = search needs
 
--- src/lookups.rt:97:15
 shared-slice-read-t15 : tie.Need-shared-slice-read-t15
 shared-slice-read-t15 c = place-inside _ (length (c .before .before .before .before .before .before .before .before .args .offsets .now)) (length (c .before .before .before .before .before .before .before .before .args .sizes .now)) (c .before .before .before .before .before .before .before .before .args .section .0) _ (c .before .before .before .before .judge-section .ensures) (c .before .before .if1 .left) .1
 
--- src/lookups.rt:81:1
 returns-2 : tie.Need-returns-2
 returns-2 c = place-yes (c .before .before .before .before .before .before .before .before .args .f) (c .before .before .before .before .before .before .before .before .args .offsets .now) (c .before .before .before .before .before .before .before .before .args .sizes .now) (c .before .before .before .before .before .before .before .before .args .section) _ (c .before .before .before .before .before .measure .ensures) _ (c .before .before .before .before .judge-section .ensures) (c .before .before .if1 .left)
 

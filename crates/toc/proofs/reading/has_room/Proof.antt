@@ -3,23 +3,16 @@ use borrow.Author.Needs.{needs}
 use Rattle.toc.proofs.Judging.{room-by}
 use Rattle.toc.proofs.reading.has_room.Statement.{statement}
 use Rattle.toc.proofs.reading.has_room.Tie as tie
-use Rattle.toc.proofs.reading.has_room.Reads as reads
-use Rattle.toc.proofs.reading.has_room.Lts as lts
-use Rattle.bits.proofs.both.Reads as both-reads
 
--- src/reading.rt:18:9
 both-requires : tie.Need-both-requires
 both-requires c κs = search needs
 
--- src/reading.rt:19:9
 both-requires-2 : tie.Need-both-requires-2
 both-requires-2 c κs = search needs
 
--- src/reading.rt:20:5
 both-requires-3 : tie.Need-both-requires-3
 both-requires-3 c κs = search needs
 
--- src/reading.rt:14:1
 returns : tie.Need-returns
 returns c = room-by (c .before .before .before .args .count) (c .before .before .before .args .offsets) (c .before .before .before .args .sizes) (c .before .before .before .args .order) (c .before .before .before .args .inverse) _ _ _ (c .before .before .both .ensures) (c .before .both2 .ensures) (c .both3 .ensures)
 

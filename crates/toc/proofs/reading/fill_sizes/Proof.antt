@@ -1,5 +1,5 @@
 -- `fill_sizes`: after k turns the first k sizes stand at their sections, each with the sum of those before it as its offset.
-use Rattle.toc.proofs.sizes.fill_sizes.Statement.{statement}
+use Rattle.toc.proofs.reading.fill_sizes.Statement.{statement}
 use borrow.Author.Needs.{needs}
 use native.Mathlib.Omega.{arith}
 use Prim.Native.Nat.{_-_, _≤_}
@@ -7,12 +7,7 @@ use lib.ListN.{take}
 use Rattle.order.proofs.Placed.{Placing, placing-none, placing-all}
 use Rattle.toc.specs.Walks.{sizeAt, offsetAt}
 use Rattle.toc.proofs.Walking.{Walking, walking-none, walking-size, walking-more, walking-fits, offsets-more, sizes-more}
-use Rattle.toc.proofs.sizes.fill_sizes.Tie as tie
-use Rattle.toc.proofs.sizes.fill_sizes.Reads as reads
-use Rattle.toc.proofs.sizes.fill_sizes.Lts as lts
-use Rattle.toc.proofs.sizes.put_offset.Reads as put-offset-reads
-use Rattle.toc.proofs.sizes.put_size.Reads as put-size-reads
-use Rattle.toc.proofs.sizes.read_size.Reads as read-size-reads
+use Rattle.toc.proofs.reading.fill_sizes.Tie as tie
 
 abbrev Inv-loop : tie.InvT-loop
 Inv-loop s start count inverse offsets₀ sizes₀ at₀ offset₀ k₀ offsets sizes at offset k = (k ≤ count) × Walking s at₀ start at k offset × Placing (offsetAt s at₀ start) (take count inverse) offsets₀ offsets k × Placing (sizeAt s at₀) (take count inverse) sizes₀ sizes k
@@ -20,55 +15,42 @@ Inv-loop s start count inverse offsets₀ sizes₀ at₀ offset₀ k₀ offsets 
 abbrev μ-loop : tie.MeasureT-loop
 μ-loop s start count inverse offsets₀ sizes₀ at₀ offset₀ k₀ offsets sizes at offset k = count - k
 
--- src/sizes.rt:98:5
 loop-holds : tie.Need-loop-holds Inv-loop μ-loop
 loop-holds c = (omega arith, walking-none (c .before .before .before .before .args .s .now) _ _, placing-none _ (take (c .before .before .before .before .args .count) (c .before .before .before .before .args .inverse .now)) _, placing-none _ (take (c .before .before .before .before .args .count) (c .before .before .before .before .args .inverse .now)) _)
 
--- src/sizes.rt:99:17
 cast-i : tie.Need-cast-i Inv-loop μ-loop
 cast-i c = search needs
 
--- src/sizes.rt:100:23
 mul-section : tie.Need-mul-section Inv-loop μ-loop
 mul-section c = search needs
 
--- src/sizes.rt:100:23
 shared-slice-read-section : tie.Need-shared-slice-read-section Inv-loop μ-loop
 shared-slice-read-section c = search needs
 
--- src/sizes.rt:100:23
 cast-section : tie.Need-cast-section Inv-loop μ-loop
 cast-section c = omega (arith, c .shared-slice-known3 .given (c .before .before .loop .k))
 
--- src/sizes.rt:101:13
 read-size-requires : tie.Need-read-size-requires Inv-loop μ-loop
 read-size-requires c κs = search needs
 
--- src/sizes.rt:102:9
 put-offset-requires : tie.Need-put-offset-requires Inv-loop μ-loop
 put-offset-requires c κs = search needs
 
--- src/sizes.rt:103:9
 put-size-requires : tie.Need-put-size-requires Inv-loop μ-loop
 put-size-requires c κs = search needs
 
--- src/sizes.rt:105:19
 cast-offset : tie.Need-cast-offset Inv-loop μ-loop
 cast-offset c = search needs
 
--- src/sizes.rt:105:9
 add-offset : tie.Need-add-offset Inv-loop μ-loop
 add-offset c = record { fits = walking-fits (c .before .before .before .before .before .before .before .before .before .before .before .before .before .before .before .before .before .before .args .s .now) _ _ _ _ _ (c .before .before .before .before .before .before .before .before .before .before .before .before .before .loop .inv .1) _ (c .before .before .before .before .before .before .before .before .before .before .read-size .ensures) (c .before .before .before .before .before .before .before .before .before .before .before .before .before .before .before .before .before .before .pre .0) (omega arith) }
 
--- src/sizes.rt:106:9
 add-k : tie.Need-add-k Inv-loop μ-loop
 add-k c = search needs
 
--- src/sizes.rt:98:5
 loop-less : tie.Need-loop-less Inv-loop μ-loop
 loop-less c = search needs
 
--- src/sizes.rt:98:5
 loop-again : tie.Need-loop-again Inv-loop μ-loop
 loop-again c = (
   omega arith,
@@ -77,15 +59,12 @@ loop-again c = (
   sizes-more (c .before .before .before .before .before .before .before .before .before .before .before .before .before .before .before .before .before .before .args .s .now) _ (c .before .before .before .before .before .before .before .before .before .before .before .before .before .before .before .before .before .before .args .start) (c .before .before .before .before .before .before .before .before .before .before .before .before .before .before .before .before .before .before .args .inverse .now) _ _ (c .before .before .before .before .before .before .before .before .before .before .before .before .loop-test .taken) (omega arith) _ _ _ _ (c .before .before .before .before .put-size .ensures) (walking-size (c .before .before .before .before .before .before .before .before .before .before .before .before .before .before .before .before .before .before .args .s .now) _ _ _ _ _ (c .before .before .before .before .before .before .before .before .before .before .before .before .before .loop .inv .1) _ (c .before .before .before .before .before .before .before .before .before .before .read-size .ensures)) (c .before .before .before .before .before .before .before .before .before .before .before .before .before .loop .inv .3),
 )
 
--- src/sizes.rt:80:1
 same-length : tie.Need-same-length Inv-loop μ-loop
 same-length c = search needs
 
--- src/sizes.rt:80:1
 same-length-2 : tie.Need-same-length-2 Inv-loop μ-loop
 same-length-2 c = search needs
 
--- src/sizes.rt:80:1
 returns : tie.Need-returns Inv-loop μ-loop
 returns c = (
   placing-all _ (c .before .before .before .before .before .before .args .inverse .now) (c .before .before .before .before .before .before .args .count) _ _ _ (c .before .loop .inv .2) (omega arith),

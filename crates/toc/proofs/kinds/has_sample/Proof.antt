@@ -1,21 +1,15 @@
 -- `has_sample`: three comparisons.
 use borrow.Author.Needs.{needs}
 use Rattle.toc.proofs.Asking.{sample-by}
-use Rattle.toc.proofs.lookups.has_sample.Statement.{statement}
-use Rattle.toc.proofs.lookups.has_sample.Tie as tie
-use Rattle.toc.proofs.lookups.has_sample.Reads as reads
-use Rattle.toc.proofs.lookups.has_sample.Lts as lts
-use Rattle.bits.proofs.both.Reads as both-reads
+use Rattle.toc.proofs.kinds.has_sample.Statement.{statement}
+use Rattle.toc.proofs.kinds.has_sample.Tie as tie
 
--- src/lookups.rt:24:9
 both-requires : tie.Need-both-requires
 both-requires c κs = search needs
 
--- src/lookups.rt:25:5
 both-requires-2 : tie.Need-both-requires-2
 both-requires-2 c κs = search needs
 
--- src/lookups.rt:21:1
 returns : tie.Need-returns
 returns c = sample-by (c .before .before .before .before .args .g) (c .before .before .before .before .args .passes) (c .before .before .before .before .args .x) (c .before .before .before .before .args .y) (c .before .before .before .before .args .pass) _ _ (c .before .both .ensures) (c .both2 .ensures)
 
