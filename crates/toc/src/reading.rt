@@ -117,7 +117,7 @@ fn put_size(table: &mut [u32], at: usize, v: u32)
 // The sizes again, in sent order: each is written at its section, with the sum of those before it as the offset.
 fn fill_sizes(
     s: &[u8],
-    first: Cursor,
+    begin: Cursor,
     start: u64,
     count: u32,
     inverse: &[u32],
@@ -126,11 +126,11 @@ fn fill_sizes(
 )
     requires { ⌜ (start ≤ 2305843009213693952) × (count ≤ length (now inverse)) ⌝ }
     ensures { λ _. ⌜
-        (now (offsets .exit) ≡ placedBy (offsetAt (now (s .entry)) first start) 0 (take count (now (inverse .entry))) (now (offsets .entry)))
-        × (now (sizes .exit) ≡ placedBy (sizeAt (now (s .entry)) first) 0 (take count (now (inverse .entry))) (now (sizes .entry)))
+        (now (offsets .exit) ≡ placedBy (offsetAt (now (s .entry)) begin start) 0 (take count (now (inverse .entry))) (now (offsets .entry)))
+        × (now (sizes .exit) ≡ placedBy (sizeAt (now (s .entry)) begin) 0 (take count (now (inverse .entry))) (now (sizes .entry)))
         ⌝ }
 {
-    let mut at = first;
+    let mut at = begin;
     let mut offset = start;
     let mut k: u32 = 0;
     while k < count {
@@ -230,8 +230,8 @@ pub fn read_toc_with_order(
     if bad.number != 0 {
         return TocRead::Refused(bad);
     }
-    let w = walk_sizes(s, bits::begin(place), count);
-    let last = w.last;
+    let walk = walk_sizes(s, bits::begin(place), count);
+    let last = walk.last;
     let fault = last.fault;
     if fault.number != 0 {
         return TocRead::Refused(fault);
@@ -239,10 +239,10 @@ pub fn read_toc_with_order(
     let start = last.at / 8;
     order::order_into(lent, count, order);
     order::inverse_into(lent, count, inverse);
-    fill_sizes(s, w.first, start, count, inverse, offsets, sizes);
+    fill_sizes(s, walk.first, start, count, inverse, offsets, sizes);
     TocRead::Table(Toc {
         count,
         bookmark: start,
-        total_byte_size: w.total,
+        total_byte_size: walk.total,
     })
 }
