@@ -1,16 +1,16 @@
 -- What an accepted table is: its parts, and what stands at each section. Over these the theorems on a whole frame are proved.
-use Prim.Native.Nat.{ℕ, zero, suc, _+_, _*_, _/_, _^_, _≤_, _<_, min}
+use Prim.Native.Nat.{ℕ, zero, suc, _+_, _*_, _/_, _^_, _≤_, _<_}
 use native.Mathlib.Omega.{arith}
 use mathlib.Core.Path.{_≡_, refl, sym, _∙_, ap}
 use mathlib.Core.List.{List}
 use mathlib.Core.Bool.{Bool, true, false}
 use lib.ListN.{length, getD}
 use lib.Dec.{eqb}
-use borrow.Author.Tests.{eq-eqb, eqb-true, eqb-false}
+use borrow.Author.Tests.{eqb-true, eqb-false}
 use Rattle.bits.specs.declared.Refusal.{Refusal}
 use Rattle.bits.specs.declared.Cursor.{Cursor}
 use Rattle.bits.specs.declared.Field.{Field}
-use Rattle.bits.specs.Refusals.{pick, start, clear, none}
+use Rattle.bits.specs.Refusals.{pick, start, clear}
 use Rattle.bits.specs.Bits.{bitCount}
 use Rattle.bits.specs.Codec.{bool, field}
 use Rattle.bits.specs.Table.{Out, read}
@@ -31,11 +31,10 @@ use Rattle.toc.specs.declared.TocRead.{TocRead}
 use Rattle.toc.specs.declared.TocRead.the-variants.{Table, OrderNeeded, Refused}
 use Rattle.toc.specs.Sizes.{sizeRows, sentBefore, offsetsBy, sizesBy}
 use Rattle.toc.specs.Walks.{sizeAt, padded, walked}
-use Rattle.toc.specs.Reading.{Tables, roomy, judged, Reading, tocOf, sizedAnswer, firstReading, secondReading, tablesOf, written, after, Done}
+use Rattle.toc.specs.Reading.{Tables, roomy, judged, Reading, tocOf, sizedAnswer, firstReading, secondReading, tablesOf, written, after}
 use Rattle.toc.proofs.Counts.{Counts, counts}
 use Rattle.toc.proofs.Walking.{size-small, rows-read}
 use Rattle.toc.proofs.Judging.{Room, Fair}
-use Rattle.toc.proofs.Filling.{sent-before}
 use Rattle.toc.proofs.Entering.{fair, roomed, first-refused, first-needed, first-is, second-refused, second-bad, second-is, lent-order}
 
 -- an accepted table: count, order, sizes as sent, data start, total, room, and what was written

@@ -1,14 +1,14 @@
 -- Laws of the look-ups: what each way answers, and that the section of a sample is one that the frame has.
-use Prim.Native.Nat.{ℕ, _+_, _*_, _/_, _≤_, _<_}
+use Prim.Native.Nat.{ℕ, _<_}
 use native.Mathlib.Omega.{arith}
-use mathlib.Core.Path.{_≡_, refl, sym, _∙_, ap}
+use mathlib.Core.Path.{_≡_, refl, sym, _∙_}
 use mathlib.Core.List.{List}
 use mathlib.Core.Bool.{Bool, true, false, not, _&&_}
 use lib.ListN.{length, getD}
 use lib.Dec.{eqb, leb, ltb}
 use borrow.Author.Tests.{eq-eqb, ne-eqb, eqb-true, eqb-false, leb-true, lt-ltb, ltb-true, not-true, not-false}
 use Rattle.bits.specs.declared.Refusal.{Refusal}
-use Rattle.bits.specs.Refusals.{pick, refusal, none}
+use Rattle.bits.specs.Refusals.{pick, refusal}
 use Rattle.grid.specs.declared.Frame.{Frame}
 use Rattle.grid.specs.declared.Grid.{Grid}
 use Rattle.grid.specs.Measured.{gridOf}
@@ -25,7 +25,7 @@ use Rattle.toc.specs.declared.TocGroupKind.{TocGroupKind}
 use Rattle.toc.specs.declared.TocGroupKind.the-variants.{All, GroupPass}
 use Rattle.toc.specs.declared.KindNumbers.{KindNumbers}
 use Rattle.toc.specs.declared.SectionPlace.{SectionPlace}
-use Rattle.toc.specs.Kinds.{numbersOf, hasKind, sectionNumber, sectionAnswer}
+use Rattle.toc.specs.Kinds.{numbersOf, hasKind, sectionNumber}
 use Rattle.toc.specs.Lookups.{sampleKind, hasSample, sectionOfSample, placeRefusal, placeBy, placeOf, sentOfSection, sectionOfSent}
 use Rattle.toc.proofs.Counts.{Counts}
 use Rattle.toc.proofs.OfKinds.{has-one, has-pass, number-below, allowed, section-yes, section-no}

@@ -1,15 +1,14 @@
 -- What an accepted frame's counts are: one section, or as many as LfGlobal, LF groups, HfGlobal and the groups of each pass come to.
 use Prim.Native.Nat.{ℕ, _+_, _*_, _≤_, _<_}
 use native.Mathlib.Omega.{arith}
-use native.Mathlib.Nat.{mul-pos, le-mul-of-pos-right}
-use mathlib.Core.Path.{_≡_, refl, sym, _∙_, ap}
+use mathlib.Core.Path.{_≡_, refl}
 use mathlib.Core.Bool.{Bool, true, false, _&&_}
 use lib.Dec.{eqb}
 use borrow.Author.Tests.{eqb-true}
 use Rattle.bits.specs.Refusals.{pick}
 use Rattle.grid.specs.declared.Frame.{Frame}
 use Rattle.grid.specs.declared.Grid.{Grid}
-use Rattle.grid.specs.Sizes.{up, colorWidth, colorHeight, groupSide, lfSide, count, sectionsOf, sections}
+use Rattle.grid.specs.Sizes.{colorWidth, colorHeight, groupSide, lfSide, count, sectionsOf, sections}
 use Rattle.grid.specs.Measured.{laid, gridOf}
 use Rattle.grid.specs.Groups.{indexAt}
 use Rattle.grid.proofs.Accepted.{Accepted, accepted, and-parts}

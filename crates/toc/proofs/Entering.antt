@@ -1,18 +1,18 @@
 -- Laws of the two entries: what each way out promises of the answer and of the four tables.
-use Prim.Native.Nat.{ℕ, _+_, _*_, _/_, _≤_, _<_}
+use Prim.Native.Nat.{ℕ, _/_, _≤_}
 use native.Mathlib.Omega.{arith}
 use native.Mathlib.Nat.{le-refl}
 use mathlib.Core.Path.{_≡_, refl, sym, _∙_, ap}
 use mathlib.Core.List.{List, []}
-use mathlib.Core.Bool.{Bool, true, false}
-use lib.ListN.{length, getD, take}
+use mathlib.Core.Bool.{Bool, true}
+use lib.ListN.{length, take}
 use lib.Dec.{eqb}
 use lib.Seq.{take-all}
 use borrow.Author.Tests.{eq-eqb, ne-eqb}
 use Rattle.bits.specs.declared.Refusal.{Refusal}
 use Rattle.bits.specs.declared.Cursor.{Cursor}
 use Rattle.bits.specs.declared.Field.{Field}
-use Rattle.bits.specs.Refusals.{pick, start, clear}
+use Rattle.bits.specs.Refusals.{pick, start}
 use Rattle.bits.specs.Codec.{bool, field}
 use Rattle.bits.specs.Table.{Table as Rows, Out, ends, read, bind, within}
 use Rattle.bits.proofs.Tables.{read-bind, read-within}
@@ -23,7 +23,7 @@ use Rattle.order.specs.Order.{isOrder, checked}
 use Rattle.order.specs.Tables.{tabulate, identity, inverseOf, filled, placed, placedBy}
 use Rattle.order.proofs.Checked.{number, accepted}
 use Rattle.order.proofs.Reach.{order-length}
-use Rattle.order.proofs.Inverse.{identity-order, identity-inverse}
+use Rattle.order.proofs.Inverse.{identity-inverse}
 use Rattle.order.proofs.Placed.{placed-inverse}
 use Rattle.toc.specs.declared.reading.Walk.{Walk}
 use Rattle.toc.specs.declared.Toc.{Toc}
@@ -31,7 +31,7 @@ use Rattle.toc.specs.declared.TocRead.{TocRead}
 use Rattle.toc.specs.declared.TocRead.the-variants.{Table, OrderNeeded, Refused}
 use Rattle.toc.specs.Sizes.{Sent, sizeRows, tocRows}
 use Rattle.toc.specs.Walks.{sizeAt, offsetAt, padded, walked}
-use Rattle.toc.specs.Reading.{Tables, tables, roomy, judgedBy, judged, judgedOrder, Reading, tocOf, sizedAnswer, firstRead, secondRead, refusedRead, firstReading, secondReading, tablesOf, written, after, Done}
+use Rattle.toc.specs.Reading.{Tables, roomy, judgedBy, judged, judgedOrder, Reading, tocOf, sizedAnswer, firstRead, secondRead, refusedRead, firstReading, secondReading, tablesOf, written, after, Done}
 use Rattle.toc.proofs.Walking.{rows-read}
 use Rattle.toc.proofs.Judging.{Room, room-parts, Fair, judged-fair}
 use Rattle.toc.proofs.Filling.{sent-before, placed-by-section, offsets-by, sizes-by}

@@ -1,5 +1,5 @@
 -- What the look-ups answer on an accepted frame and table: the section of a sample is that sample's GroupPass, and a section's place is what the table says.
-use Prim.Native.Nat.{ℕ, _+_, _*_, _≤_, _<_}
+use Prim.Native.Nat.{ℕ, _+_, _*_, _<_}
 use native.Mathlib.Omega.{arith}
 use mathlib.Core.Path.{_≡_, refl, sym, _∙_, ap}
 use mathlib.Core.List.{List}
@@ -26,9 +26,8 @@ use Rattle.toc.specs.Kinds.{numbersOf, sectionNumber}
 use Rattle.toc.specs.Sizes.{sentBefore}
 use Rattle.toc.specs.Reading.{Tables, Reading, tablesOf, after, Done}
 use Rattle.toc.specs.Lookups.{sampleKind, hasSample, sectionOfSample, placeOf}
-use Rattle.toc.proofs.Counts.{Counts, counts}
 use Rattle.toc.proofs.OfKinds.{number-pass}
-use Rattle.toc.proofs.Asking.{Sample, sample-group, sample-all, of-sample-yes, place-judged, place-yes}
+use Rattle.toc.proofs.Asking.{Sample, sample-group, of-sample-yes, place-judged, place-yes}
 use Rattle.toc.proofs.Accepted.{Accepted, offset-at, size-at}
 
 -- any two answers that an entry's promise allows are equal, word by word

@@ -3,12 +3,11 @@ use Prim.Native.Nat.{ℕ, _+_, _-_, _*_, _/_, _%_, _≤_, _<_}
 use native.Mathlib.Omega.{arith}
 use native.Mathlib.Nat.{mul-comm, div-add-mod', mod-lt, div-lt-iff-lt-mul}
 use mathlib.Core.Path.{_≡_, refl, sym, _∙_, ap}
-use mathlib.Core.Bool.{Bool, true, false, _&&_, _||_, true≢false, false≢true}
+use mathlib.Core.Bool.{Bool, true, false, false≢true}
 use lib.Dec.{eqb, leb, ltb}
 use lib.Arith.{digits-div, digits-mod}
-use borrow.Author.Tests.{eq-eqb, ne-eqb, eqb-true, eqb-false, le-leb, lt-leb, leb-true, leb-false, lt-ltb, ltb-true}
-use Rattle.bits.specs.declared.Refusal.{Refusal}
-use Rattle.bits.specs.Refusals.{pick, refusal, none}
+use borrow.Author.Tests.{eq-eqb, ne-eqb, eqb-true, eqb-false, leb-true, leb-false, lt-ltb, ltb-true}
+use Rattle.bits.specs.Refusals.{refusal, none}
 use Rattle.grid.specs.declared.Frame.{Frame}
 use Rattle.grid.specs.declared.Grid.{Grid}
 use Rattle.grid.specs.Measured.{gridOf}
@@ -24,7 +23,7 @@ use Rattle.toc.specs.declared.KindNumbers.{KindNumbers}
 use Rattle.toc.specs.declared.KindAnswer.{KindAnswer}
 use Rattle.toc.specs.Kinds.{numbersOf, hasKind, sectionNumber, kindAt, sectionAnswer, sectionOfKind, kindOf}
 use Rattle.toc.proofs.Counts.{Counts, counts}
-use Rattle.toc.proofs.OfKinds.{at-one, at-first, at-lf, at-hf, at-pass, has-one, has-lf, has-pass, has-global, number-lf, number-hf, number-pass, number-first, number-below, of-kind-yes, kind-yes, allowed}
+use Rattle.toc.proofs.OfKinds.{at-one, at-first, at-lf, at-hf, at-pass, has-one, has-lf, has-pass, has-global, number-lf, number-hf, number-pass, number-first, number-below, of-kind-yes, kind-yes}
 
 -- the frame has the kind, as section i
 pub record Stands (f : Frame) (g : Grid) (i : ℕ) (kind : TocGroupKind) : Type 0 where

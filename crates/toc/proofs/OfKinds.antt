@@ -3,21 +3,21 @@ use Prim.Native.Nat.{ℕ, _+_, _-_, _*_, _/_, _%_, _≤_, _<_}
 use native.Mathlib.Omega.{arith}
 use native.Mathlib.Nat.{mul-comm}
 use lib.Arith.{digits-lt}
-use mathlib.Core.Path.{_≡_, refl, sym, _∙_, ap}
-use mathlib.Core.Bool.{Bool, true, false, _&&_, _||_}
-use lib.Dec.{eqb, leb, ltb}
-use borrow.Author.Tests.{eq-eqb, ne-eqb, eqb-true, eqb-false, le-leb, lt-leb, leb-true, leb-false, lt-ltb, le-ltb, ltb-true, ltb-false}
+use mathlib.Core.Path.{_≡_, refl, sym, _∙_}
+use mathlib.Core.Bool.{Bool, true, _&&_, _||_}
+use lib.Dec.{eqb, ltb}
+use borrow.Author.Tests.{eq-eqb, ne-eqb, eqb-true, eqb-false, le-leb, lt-leb, ltb-true}
 use Rattle.bits.specs.declared.Refusal.{Refusal}
-use Rattle.bits.specs.Refusals.{pick, refusal, none}
+use Rattle.bits.specs.Refusals.{refusal}
 use Rattle.grid.specs.declared.Frame.{Frame}
 use Rattle.grid.specs.declared.Grid.{Grid}
 use Rattle.grid.specs.Measured.{gridOf}
 use Rattle.grid.specs.Groups.{judge}
 use Rattle.grid.proofs.Accepted.{and-parts}
-use Rattle.grid.proofs.Answers.{judged, judge-known}
+use Rattle.grid.proofs.Answers.{judged}
 use Rattle.order.specs.declared.SectionNumber.{SectionNumber}
 use Rattle.order.specs.declared.SectionAnswer.{SectionAnswer}
-use Rattle.order.proofs.Entries.{split, and-both}
+use Rattle.order.proofs.Entries.{split}
 use Rattle.toc.specs.declared.TocGroupKind.{TocGroupKind}
 use Rattle.toc.specs.declared.TocGroupKind.the-variants.{All, LfGlobal, LfGroup, HfGlobal, GroupPass}
 use Rattle.toc.specs.declared.KindNumbers.{KindNumbers}

@@ -1,11 +1,11 @@
 -- Laws of the walk over the sizes: how large a size is, what a turn of the walk adds, and that the walk is the reading of the table of fields.
-use Prim.Native.Nat.{ℕ, zero, suc, _+_, _*_, _%_, _^_, _≤_, _<_, min}
+use Prim.Native.Nat.{ℕ, zero, suc, _+_, _*_, _%_, _^_, _≤_, _<_}
 use native.Mathlib.Omega.{arith}
 use native.Mathlib.Nat.{mod-le, add-zero}
 use native.Mathlib.Numerals.{add-one}
 use mathlib.Core.Path.{_≡_, refl, sym, _∙_, ap}
-use mathlib.Core.List.{List, [], _∷_}
-use mathlib.Core.Bool.{Bool, true, false, _&&_}
+use mathlib.Core.List.{List, _∷_}
+use mathlib.Core.Bool.{Bool, true, false}
 use lib.ListN.{length, getD, set, take}
 use lib.Dec.{eqb, lit≤}
 use Rattle.bits.specs.declared.Cursor.{Cursor}
@@ -13,12 +13,12 @@ use Rattle.bits.specs.declared.Field.{Field}
 use Rattle.bits.specs.declared.Choice.{Choice}
 use Rattle.bits.specs.Refusals.{pick, clear}
 use Rattle.bits.specs.Bits.{bitsAt, there}
-use Rattle.bits.specs.Steps.{Steps, takes, gives, refusedAt, run}
+use Rattle.bits.specs.Steps.{run}
 use Rattle.bits.specs.Codec.{u32, padding, field, chosen}
-use Rattle.bits.specs.Table.{Table, ends, row, Out, read, bind, times}
+use Rattle.bits.specs.Table.{ends, row, Out, read, bind, times}
 use Rattle.bits.proofs.Bits.{bits-lt}
 use Rattle.bits.proofs.Tables.{read-bind}
-use Rattle.order.specs.Tables.{tabulate, placedBy}
+use Rattle.order.specs.Tables.{tabulate}
 use Rattle.order.specs.Sums.{sumTo}
 use Rattle.order.proofs.Tables.{tabulate-ext}
 use Rattle.order.proofs.Placed.{Placing, placing-more}

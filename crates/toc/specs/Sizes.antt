@@ -1,5 +1,5 @@
 -- Sizes as they are sent, as a table of fields; and offsets as sums of the sizes sent before.
-use Prim.Native.Nat.{ℕ, _+_, _/_}
+use Prim.Native.Nat.{ℕ, _+_}
 use mathlib.Core.List.{List, []}
 use mathlib.Core.Bool.{true}
 use lib.ListN.{getD}

@@ -10,9 +10,8 @@ use order::SectionAnswer;
 use order::SectionNumber;
 ghost use mathlib.Core.Path.{_≡_};
 ghost use Prim.Native.Nat.{_<_};
-ghost use Rattle.grid.specs.Measured.{gridOf};
 ghost use Rattle.grid.specs.Groups.{judge, indexAt};
-ghost use Rattle.toc.specs.Kinds.{numbersOf, hasKind, sectionNumber, kindAt, sectionAnswer, sectionOfKind, kindOf};
+ghost use Rattle.toc.specs.Kinds.{numbersOf, hasKind, sectionNumber, kindAt, sectionOfKind, kindOf};
 ghost use Rattle.toc.specs.Lookups.{sampleKind, hasSample, sectionOfSample};
 
 // A kind's number and values.

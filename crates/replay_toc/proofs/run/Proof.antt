@@ -1,6 +1,5 @@
 -- `run`: a record a turn.
 use Prim.Native.Nat.{_≤_, _-_, _+_}
-use mathlib.Core.Path.{_≡_}
 use lib.ListN.{length}
 use borrow.Author.Needs.{needs}
 use Rattle.replay_toc.proofs.run.Statement.{statement}

@@ -1,6 +1,5 @@
 -- `sum_wide`: every word goes into the sum.
-use Prim.Native.Nat.{_≤_, _-_, _+_}
-use mathlib.Core.Path.{_≡_}
+use Prim.Native.Nat.{_≤_, _-_}
 use lib.ListN.{length}
 use borrow.Author.Needs.{needs}
 use Rattle.replay_toc.proofs.sum_wide.Statement.{statement}

@@ -1,6 +1,5 @@
 -- `section_of_kind`: a section number below the count, or a refusal.
 use borrow.Author.Needs.{needs}
-use native.Mathlib.Omega.{arith}
 use Rattle.toc.proofs.OfKinds.{of-kind-no, of-kind-yes, number-fits}
 use Rattle.toc.proofs.kinds.section_of_kind.Statement.{statement}
 use Rattle.toc.proofs.kinds.section_of_kind.Tie as tie
