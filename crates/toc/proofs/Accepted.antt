@@ -1,0 +1,236 @@
+-- What an accepted table is: its parts, and what stands at each section. Over these the theorems on a whole frame are proved.
+use Prim.Native.Nat.{ℕ, zero, suc, _+_, _*_, _/_, _^_, _≤_, _<_}
+use native.Mathlib.Omega.{arith}
+use mathlib.Core.Path.{_≡_, refl, sym, _∙_, ap}
+use mathlib.Core.List.{List}
+use mathlib.Core.Bool.{Bool, true, false}
+use lib.ListN.{length, getD}
+use lib.Dec.{eqb}
+use borrow.Author.Tests.{eqb-true, eqb-false}
+use Rattle.bits.specs.declared.Refusal.{Refusal}
+use Rattle.bits.specs.declared.Cursor.{Cursor}
+use Rattle.bits.specs.declared.Field.{Field}
+use Rattle.bits.specs.Refusals.{pick, start, clear}
+use Rattle.bits.specs.Bits.{bitCount}
+use Rattle.bits.specs.Codec.{bool, field}
+use Rattle.bits.specs.Table.{Out, read}
+use Rattle.bits.proofs.Reading.{read-within-end, field-within}
+use Rattle.grid.specs.declared.Frame.{Frame}
+use Rattle.grid.specs.declared.Grid.{Grid}
+use Rattle.grid.specs.Measured.{gridOf}
+use Rattle.order.specs.Order.{isOrder, checked}
+use Rattle.order.specs.Tables.{tabulate, identity, inverseOf, filled}
+use Rattle.order.specs.Sums.{sumTo}
+use Rattle.order.proofs.Entries.{split}
+use Rattle.order.proofs.Sums.{sum-ext}
+use Rattle.order.proofs.Reach.{order-length, order-below, order-sum}
+use Rattle.order.proofs.Inverse.{identity-order, inverse-length}
+use Rattle.order.proofs.Tables.{length-tabulate, getD-tabulate, filled-at}
+use Rattle.toc.specs.declared.Toc.{Toc}
+use Rattle.toc.specs.declared.TocRead.{TocRead}
+use Rattle.toc.specs.declared.TocRead.the-variants.{Table, OrderNeeded, Refused}
+use Rattle.toc.specs.Sizes.{sizeRows, sentBefore, offsetsBy, sizesBy}
+use Rattle.toc.specs.Walks.{sizeAt, padded, walked}
+use Rattle.toc.specs.Reading.{Tables, roomy, judged, Reading, tocOf, sizedAnswer, firstReading, secondReading, tablesOf, written, after}
+use Rattle.toc.proofs.Counts.{Counts, counts}
+use Rattle.toc.proofs.Walking.{size-small, rows-read}
+use Rattle.toc.proofs.Judging.{Room, Fair}
+use Rattle.toc.proofs.Entering.{fair, roomed, first-refused, first-needed, first-is, second-refused, second-bad, second-is, lent-order}
+
+-- an accepted table: count, order, sizes as sent, data start, total, room, and what was written
+pub record Accepted (s : List ℕ) (f : Frame) (t : Tables) (toc : Toc) (q : Reading) : Type 0 where
+  pub frame : gridOf f .refusal .number ≡ 0
+  pub counts : Counts f (gridOf f)
+  pub count : toc .count ≡ gridOf f .sections
+  pub few : toc .count ≤ 65536
+  pub order : isOrder (toc .count) (q .order) ≡ true
+  pub sent : length (q .sizes) ≡ toc .count
+  pub small : (k : ℕ) → k < toc .count → getD (q .sizes) k 0 < 1077953536
+  pub short : length s ≤ 16777216
+  pub begins : toc .bookmark ≤ length s
+  pub total : toc .«total_byte_size» ≡ sentBefore (q .sizes) (toc .count)
+  pub room : Room (toc .count) (length (t .offsets)) (length (t .sizes)) (length (t .order)) (length (t .inverse))
+  pub filled : after q t ≡ tablesOf toc (q .sizes) (q .order) t
+
+sized-by : (b : Bool) (x toc : Toc) (r : Refusal) → pick b (Table x) (Refused r) ≡ Table toc → toc ≡ x
+sized-by true x toc r e = cc
+sized-by false x toc r e = absurd (let z : _≡_ {A = ℕ} 0 1 = cc in omega arith)
+
+pub not-refused : (r : Refusal) (toc : Toc) (a : TocRead) → Refused r ≡ a → a ≡ Table toc → ⊥
+not-refused r toc a p q = let z : _≡_ {A = ℕ} 0 1 = cc in omega arith
+
+pub not-needed : (n : ℕ) (toc : Toc) (a : TocRead) → OrderNeeded n ≡ a → a ≡ Table toc → ⊥
+not-needed n toc a p q = let z : _≡_ {A = ℕ} 0 1 = cc in omega arith
+
+-- a reading with an order l, from the padding at c on
+module _ (s : List ℕ) (f : Frame) (t : Tables) (toc : Toc) (q : Reading) (l : List ℕ) (c : Cursor)
+    (eq : q ≡ record {
+      answer = sizedAnswer (gridOf f .sections) (tabulate (gridOf f .sections) (sizeAt s (padded s c))) (walked s c (gridOf f .sections) .last);
+      order = l;
+      sizes = tabulate (gridOf f .sections) (sizeAt s (padded s c));
+    }) (table : q .answer ≡ Table toc)
+  where
+    toc-is : toc ≡ tocOf (gridOf f .sections) (tabulate (gridOf f .sections) (sizeAt s (padded s c))) (walked s c (gridOf f .sections) .last)
+    unfolding sizedAnswer
+    toc-is =
+        let last : Cursor = walked s c (gridOf f .sections) .last in
+        sized-by (clear last) (tocOf (gridOf f .sections) (tabulate (gridOf f .sections) (sizeAt s (padded s c))) last) toc (last .fault)
+        (sym (ap (λ (x : Reading). x .answer) eq) ∙ table)
+
+    count-is : toc .count ≡ gridOf f .sections
+    unfolding tocOf
+    count-is = ap (λ (x : Toc). x .count) toc-is
+
+    start-is : toc .bookmark ≡ walked s c (gridOf f .sections) .last .at / 8
+    unfolding tocOf
+    start-is = ap (λ (x : Toc). x .bookmark) toc-is
+
+    total-is : toc .«total_byte_size» ≡ sentBefore (tabulate (gridOf f .sections) (sizeAt s (padded s c))) (gridOf f .sections)
+    unfolding tocOf
+    total-is = ap (λ (x : Toc). x .«total_byte_size») toc-is
+
+    sizes-are : q .sizes ≡ tabulate (gridOf f .sections) (sizeAt s (padded s c))
+    sizes-are = ap (λ (x : Reading). x .sizes) eq
+
+    last-within : c .at ≤ bitCount s → walked s c (gridOf f .sections) .last .at ≤ bitCount s
+    last-within h =
+        let is : read (sizeRows (gridOf f .sections)) s c .next ≡ walked s c (gridOf f .sections) .last =
+        ap (λ (o : Out (List ℕ)). o .next) (rows-read s c (gridOf f .sections)) in
+        rw (← is) (read-within-end (sizeRows (gridOf f .sections)) s c h)
+
+    filled-is : after q t ≡ tablesOf toc (q .sizes) (q .order) t
+    unfolding written
+    filled-is = ap (λ (a : TocRead). written a (q .sizes) (q .order) t) table
+
+    pub accepted-by : isOrder (gridOf f .sections) l ≡ true → (place : ℕ) (room : Bool) → Fair s (gridOf f) place room
+        → Room (gridOf f .sections) (length (t .offsets)) (length (t .sizes)) (length (t .order)) (length (t .inverse)) → c .at ≤ bitCount s
+        → Accepted s f t toc q
+    accepted-by o place room fair rooms h =
+        let n : Counts f (gridOf f) = counts f (gridOf f) refl (fair .frame) in
+        let l-is : q .order ≡ l = ap (λ (x : Reading). x .order) eq in
+        record {
+          frame = fair .frame;
+          counts = n;
+          count = count-is;
+          few = omega (arith, count-is, n .small);
+          order = rw (count-is, l-is) o;
+          sent = ap length sizes-are ∙ length-tabulate (gridOf f .sections) (sizeAt s (padded s c)) ∙ sym count-is;
+          small = λ k lt. rw (sizes-are, getD-tabulate (gridOf f .sections) (sizeAt s (padded s c)) k (omega (arith, count-is))) (size-small s (padded s c) k);
+          short = fair .short;
+          begins = omega (arith, start-is, last-within h);
+          total = rw (count-is, sizes-are) total-is;
+          room = rw count-is rooms;
+          filled = filled-is;
+        }
+
+-- within the bits from a place that is not past the end
+place-within : (s : List ℕ) (place : ℕ) → length s ≤ 16777216 → place ≤ 8 * length s → place ≤ bitCount s
+place-within s place h k = omega arith
+
+-- the first entry: the order is the identity
+pub first-accepted : (s : List ℕ) (f : Frame) (place : ℕ) (t : Tables) (toc : Toc) → firstReading s f place t .answer ≡ Table toc
+    → Accepted s f t toc (firstReading s f place t) × (firstReading s f place t .order ≡ identity (toc .count))
+first-accepted s f place t toc e =
+    let g : Grid = gridOf f in
+    let r : Refusal = judged s g place t in
+    split (eqb (r .number) 0)
+    (λ z'.
+    let z : r .number ≡ 0 = eqb-true (r .number) 0 z' in
+    let ok = fair s f place t g refl (roomy (g .sections) t) refl r refl z in
+    let flag : Field = field s true bool 0 (start place) in
+    split (eqb (flag .value) 0)
+    (λ p.
+    let is = first-is s f place t g refl (roomy (g .sections) t) refl r refl z (start place) refl flag refl (eqb-true (flag .value) 0 p) in
+    let inside : flag .next .at ≤ bitCount s = field-within s true bool 0 (start place) (place-within s place (ok .short) (ok .inside)) in
+    let a =
+    accepted-by s f t toc (firstReading s f place t) (identity (g .sections)) (flag .next) is e (identity-order (g .sections)) place (roomy (g .sections) t) ok
+    (roomed s f place t g refl (roomy (g .sections) t) refl r refl z) inside in
+    (a, ap (λ (x : Reading). x .order) is ∙ ap identity (sym (a .count))))
+    (λ p.
+    absurd (not-needed _ toc _ (first-needed s f place t g refl (roomy (g .sections) t) refl r refl z (start place) refl flag refl (eqb-false (flag .value) 0 p) .answer) e)))
+    (λ z'. absurd (not-refused r toc _ (first-refused s f place t g refl (roomy (g .sections) t) refl r refl (eqb-false (r .number) 0 z') .answer) e))
+
+-- the second entry: the order is the lent one
+pub second-accepted : (s : List ℕ) (f : Frame) (place : ℕ) (lent : List ℕ) (t : Tables) (toc : Toc) → secondReading s f place lent t .answer ≡ Table toc
+    → Accepted s f t toc (secondReading s f place lent t) × (secondReading s f place lent t .order ≡ lent)
+second-accepted s f place lent t toc e =
+    let g : Grid = gridOf f in
+    let r : Refusal = judged s g place t in
+    let bad : Refusal = checked (g .sections) lent in
+    split (eqb (r .number) 0)
+    (λ z'.
+    let z : r .number ≡ 0 = eqb-true (r .number) 0 z' in
+    let ok = fair s f place t g refl (roomy (g .sections) t) refl r refl z in
+    split (eqb (bad .number) 0)
+    (λ b'.
+    let b : bad .number ≡ 0 = eqb-true (bad .number) 0 b' in
+    let is = second-is s f place t g refl (roomy (g .sections) t) refl r refl z lent bad refl b (start place) refl in
+    let a =
+    accepted-by s f t toc (secondReading s f place lent t) lent (start place) is e
+    (lent-order s f place t g refl (roomy (g .sections) t) refl r refl z lent bad refl b) place (roomy (g .sections) t) ok
+    (roomed s f place t g refl (roomy (g .sections) t) refl r refl z) (place-within s place (ok .short) (ok .inside)) in
+    (a, ap (λ (x : Reading). x .order) is))
+    (λ b'. absurd (not-refused bad toc _ (second-bad s f place t g refl (roomy (g .sections) t) refl r refl z lent bad refl (eqb-false (bad .number) 0 b') .answer) e)))
+    (λ z'. absurd (not-refused r toc _ (second-refused s f place t g refl (roomy (g .sections) t) refl r refl lent (eqb-false (r .number) 0 z') .answer) e))
+
+-- ---- what stands at each section
+
+sum-bound : (n : ℕ) (f : ℕ → ℕ) → ((k : ℕ) → k < n → f k < 1077953536) → sumTo n f ≤ n * 1077953535
+unfolding sumTo
+sum-bound zero f h = omega arith
+sum-bound (suc n) f h = omega (arith, sum-bound n f (λ k l. h k (omega arith)), h n (omega arith))
+
+module _ (s : List ℕ) (f : Frame) (t : Tables) (toc : Toc) (q : Reading) (a : Accepted s f t toc q) where
+  -- the sizes sent before any of count numbers come to less than 2^47
+  pub before-small : (k : ℕ) → k ≤ toc .count → sentBefore (q .sizes) k ≤ k * 1077953535
+  unfolding sentBefore
+  before-small k h = sum-bound k (λ i. getD (q .sizes) i 0) (λ i l. a .small i (omega arith))
+
+  module _ (j : ℕ) (l : j < toc .count) where
+    -- offset[section] = data start + the sizes sent before order[section]
+    pub offset-at : getD (after q t .offsets) j 0 ≡ toc .bookmark + sentBefore (q .sizes) (getD (q .order) j 0)
+    unfolding tablesOf offsetsBy
+    offset-at =
+        ap (λ (x : Tables). getD (x .offsets) j 0) (a .filled)
+        ∙ filled-at (offsetsBy (toc .count) (toc .bookmark) (q .sizes) (q .order)) (t .offsets) j
+        (omega (arith, length-tabulate (toc .count) (λ i. toc .bookmark + sentBefore (q .sizes) (getD (q .order) i 0)))) (omega (arith, a .room .offsets))
+        ∙ getD-tabulate (toc .count) (λ i. toc .bookmark + sentBefore (q .sizes) (getD (q .order) i 0)) j l
+
+    -- size[section] = the size sent as order[section]
+    pub size-at : getD (after q t .sizes) j 0 ≡ getD (q .sizes) (getD (q .order) j 0) 0
+    unfolding tablesOf sizesBy
+    size-at =
+        ap (λ (x : Tables). getD (x .sizes) j 0) (a .filled)
+        ∙ filled-at (sizesBy (toc .count) (q .sizes) (q .order)) (t .sizes) j
+        (omega (arith, length-tabulate (toc .count) (λ i. getD (q .sizes) (getD (q .order) i 0) 0))) (omega (arith, a .room .sizes))
+        ∙ getD-tabulate (toc .count) (λ i. getD (q .sizes) (getD (q .order) i 0) 0) j l
+
+    pub order-at : getD (after q t .order) j 0 ≡ getD (q .order) j 0
+    unfolding tablesOf
+    order-at =
+        ap (λ (x : Tables). getD (x .order) j 0) (a .filled)
+        ∙ filled-at (q .order) (t .order) j (omega (arith, order-length (toc .count) (q .order) (a .order))) (omega (arith, a .room .order))
+
+    pub inverse-at : getD (after q t .inverse) j 0 ≡ getD (inverseOf (toc .count) (q .order)) j 0
+    unfolding tablesOf
+    inverse-at =
+        ap (λ (x : Tables). getD (x .inverse) j 0) (a .filled)
+        ∙ filled-at (inverseOf (toc .count) (q .order)) (t .inverse) j (omega (arith, inverse-length (toc .count) (q .order))) (omega (arith, a .room .inverse))
+
+    -- all offsets are below 2^47
+    pub offset-below : getD (after q t .offsets) j 0 < 2 ^ 47
+    offset-below =
+        let low : getD (q .order) j 0 < toc .count = order-below (toc .count) (q .order) (a .order) j l in
+        omega (arith, offset-at, before-small (getD (q .order) j 0) (omega arith), a .few, a .begins, a .short)
+
+  -- the total is the sum of the sizes, by section as it is as sent
+  pub total-by-section : sumTo (toc .count) (λ j. getD (after q t .sizes) j 0) ≡ toc .«total_byte_size»
+  unfolding sentBefore
+  total-by-section =
+      sum-ext (toc .count) (λ j. getD (after q t .sizes) j 0) (λ j. getD (q .sizes) (getD (q .order) j 0) 0) (λ j l. size-at j l)
+      ∙ order-sum (toc .count) (q .order) (a .order) (λ k. getD (q .sizes) k 0)
+      ∙ sym (a .total)
+
+  -- where the data ends
+  pub end-below : toc .bookmark + toc .«total_byte_size» < 2 ^ 47
+  end-below = omega (arith, a .total, before-small (toc .count) (omega arith), a .few, a .begins, a .short)

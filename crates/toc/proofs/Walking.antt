@@ -1,0 +1,141 @@
+-- Laws of the walk over the sizes: how large a size is, what a turn of the walk adds, and that the walk is the reading of the table of fields.
+use Prim.Native.Nat.{ℕ, zero, suc, _+_, _*_, _%_, _^_, _≤_, _<_}
+use native.Mathlib.Omega.{arith}
+use native.Mathlib.Nat.{mod-le, add-zero}
+use native.Mathlib.Numerals.{add-one}
+use mathlib.Core.Path.{_≡_, refl, sym, _∙_, ap}
+use mathlib.Core.List.{List, _∷_}
+use mathlib.Core.Bool.{Bool, true, false}
+use lib.ListN.{length, getD, set, take}
+use lib.Dec.{eqb, lit≤}
+use Rattle.bits.specs.declared.Cursor.{Cursor}
+use Rattle.bits.specs.declared.Field.{Field}
+use Rattle.bits.specs.declared.Choice.{Choice}
+use Rattle.bits.specs.Refusals.{pick, clear}
+use Rattle.bits.specs.Bits.{bitsAt, there}
+use Rattle.bits.specs.Steps.{run}
+use Rattle.bits.specs.Codec.{u32, padding, field, chosen}
+use Rattle.bits.specs.Table.{ends, row, Out, read, bind, times}
+use Rattle.bits.proofs.Bits.{bits-lt}
+use Rattle.bits.proofs.Tables.{read-bind}
+use Rattle.order.specs.Tables.{tabulate}
+use Rattle.order.specs.Sums.{sumTo}
+use Rattle.order.proofs.Tables.{tabulate-ext}
+use Rattle.order.proofs.Placed.{Placing, placing-more}
+use Rattle.toc.specs.declared.reading.Walk.{Walk}
+use Rattle.toc.specs.Sizes.{sizeChoices, sizeRow, sizeRows}
+use Rattle.toc.specs.Walks.{cursorAt, sizeAt, offsetAt, padded, walked}
+
+-- what holds of both choices holds of the pick
+pub pick-by : {A : Type 0} (P : A → Type 0) (b : Bool) (x y : A) → P x → P y → P (pick b x y)
+pick-by P true x y h k = h
+pick-by P false x y h k = k
+
+-- a size is below 4211712 + 2^30
+choice-small : (k : ℕ) → chosen sizeChoices k .base + 2 ^ chosen sizeChoices k .bits ≤ 1077953536
+choice-small k =
+    pick-by (λ (c : Choice). c .base + 2 ^ c .bits ≤ 1077953536) (eqb k 0) _ _ (lit≤ tt)
+    (pick-by (λ (c : Choice). c .base + 2 ^ c .bits ≤ 1077953536) (eqb k 1) _ _ (lit≤ tt)
+    (pick-by (λ (c : Choice). c .base + 2 ^ c .bits ≤ 1077953536) (eqb k 2) _ _ (lit≤ tt) (lit≤ tt)))
+
+pub field-small : (s : List ℕ) (c : Cursor) → field s true (u32 sizeChoices) 0 c .value < 1077953536
+unfolding field run
+field-small s c =
+    let p : ℕ = c .at in
+    let k : ℕ = bitsAt s p 2 in
+    let ch : Choice = chosen sizeChoices k in
+    let x : ℕ = bitsAt s (p + 2) (ch .bits) in
+    let low : (ch .base + x) % 2 ^ 32 < 1077953536 =
+    omega (arith, mod-le (ch .base + x) (2 ^ 32), bits-lt s (p + 2) (ch .bits), choice-small k) in
+    pick-by (λ (r : Field). r .value < 1077953536) (clear c) _ _
+    (pick-by (λ (r : Field). r .value < 1077953536) (there s p 2) _ _
+    (pick-by (λ (r : Field). r .value < 1077953536) (there s (p + 2) (ch .bits)) _ _ low (lit≤ tt))
+    (lit≤ tt))
+    (lit≤ tt)
+
+pub size-small : (s : List ℕ) (c : Cursor) (k : ℕ) → sizeAt s c k < 1077953536
+unfolding sizeAt
+size-small s c k = field-small s (cursorAt s c k)
+
+pub sum-small : (s : List ℕ) (c : Cursor) (k : ℕ) → sumTo k (sizeAt s c) ≤ k * 1077953535
+unfolding sumTo
+sum-small s c zero = omega arith
+sum-small s c (suc k) = omega (arith, sum-small s c k, size-small s c k)
+
+-- a walk that has passed k sizes: where it stands, and a start with their sum added
+pub record Walking (s : List ℕ) (first : Cursor) (start : ℕ) (at : Cursor) (k sum : ℕ) : Type 0 where
+  pub place : at ≡ cursorAt s first k
+  pub total : sum ≡ offsetAt s first start k
+
+pub walking-none : (s : List ℕ) (first : Cursor) (start : ℕ) → Walking s first start first 0 start
+unfolding cursorAt offsetAt sumTo
+walking-none s first start = record { place = refl; total = sym (add-zero start) }
+
+module _ (s : List ℕ) (first : Cursor) (start : ℕ) (at : Cursor) (k sum : ℕ) (w : Walking s first start at k sum) (x : Field) (e : x ≡ field s true (u32 sizeChoices) 0 at) where
+  pub walking-size : x .value ≡ sizeAt s first k
+  unfolding sizeAt
+  walking-size = ap (λ (f : Field). f .value) e ∙ ap (λ (c : Cursor). field s true (u32 sizeChoices) 0 c .value) (w .place)
+
+  pub walking-more : Walking s first start (x .next) (k + 1) (sum + x .value)
+  unfolding cursorAt offsetAt sumTo
+  walking-more = record {
+    place = rw (add-one k) (ap (λ (f : Field). f .next) e ∙ ap (λ (c : Cursor). field s true (u32 sizeChoices) 0 c .next) (w .place));
+    total = rw (add-one k) (omega (arith, w .total, walking-size));
+  }
+
+  pub walking-fits : start ≤ 2305843009213693952 → k < 4294967296 → sum + x .value < 2 ^ 64
+  unfolding offsetAt
+  walking-fits h l = omega (arith, w .total, walking-size, size-small s first k, sum-small s first k)
+
+-- a turn that fills: the offset and the size of number k are written at its section
+module _ (s : List ℕ) (first : Cursor) (start : ℕ) (l : List ℕ) (count k : ℕ) (low : k < count) (there : k < length l) (before table next : List ℕ) (v : ℕ) (e : next ≡ set table (getD l k 0) v) where
+  pub offsets-more : v ≡ offsetAt s first start k → Placing (offsetAt s first start) (take count l) before table k
+      → Placing (offsetAt s first start) (take count l) before next (k + 1)
+  offsets-more ev p = placing-more (offsetAt s first start) l count before table k p next low there (e ∙ ap (set table (getD l k 0)) ev)
+
+  pub sizes-more : v ≡ sizeAt s first k → Placing (sizeAt s first) (take count l) before table k
+      → Placing (sizeAt s first) (take count l) before next (k + 1)
+  sizes-more ev p = placing-more (sizeAt s first) l count before table k p next low there (e ∙ ap (set table (getD l k 0)) ev)
+
+-- what the walk that judges comes to
+pub walk-done : (s : List ℕ) (c : Cursor) (count : ℕ) (first at last : Cursor) (k total : ℕ) → first ≡ padded s c → k ≤ count → count ≤ k → Walking s first 0 at k total
+    → last ≡ padded s at → _≡_ {A = Walk} (record { first = first; last = last; total = total }) (walked s c count)
+unfolding walked offsetAt
+walk-done s c count first at last k total ef low high w el =
+    let same : k ≡ count = omega arith in
+    let sum : total ≡ sumTo k (sizeAt s first) = omega (arith, w .total) in
+    rw (← ef, ← same, ← sum, ← w .place, ← el)
+
+-- the walk begun one size later
+cursor-later : (s : List ℕ) (c : Cursor) (k : ℕ) → cursorAt s c (suc k) ≡ cursorAt s (field s true (u32 sizeChoices) 0 c .next) k
+unfolding cursorAt
+cursor-later s c zero = refl
+cursor-later s c (suc k) = ap (λ (d : Cursor). field s true (u32 sizeChoices) 0 d .next) (cursor-later s c k)
+
+size-later : (s : List ℕ) (c : Cursor) (k : ℕ) → sizeAt s c (suc k) ≡ sizeAt s (field s true (u32 sizeChoices) 0 c .next) k
+unfolding sizeAt
+size-later s c k = ap (λ (d : Cursor). field s true (u32 sizeChoices) 0 d .value) (cursor-later s c k)
+
+size-first : (s : List ℕ) (c : Cursor) → field s true (u32 sizeChoices) 0 c .value ≡ sizeAt s c 0
+unfolding sizeAt cursorAt
+size-first s c = refl
+
+-- the rows of the sizes are read as the walk reads them
+pub times-read : (n i : ℕ) (s : List ℕ) (c : Cursor)
+    → _≡_ {A = Out (List ℕ)} (read (times n i sizeRow) s c) (record { value = tabulate n (sizeAt s c); next = cursorAt s c n })
+unfolding read bind times tabulate cursorAt
+times-read zero i s c = refl
+times-read (suc n) i s c =
+    let f : Field = field s true (u32 sizeChoices) 0 c in
+    let rest = times-read n (suc i) s (f .next) in
+    let words : tabulate n (sizeAt s (f .next)) ≡ tabulate n (λ k. sizeAt s c (suc k)) = tabulate-ext n _ _ (λ k h. sym (size-later s c k)) in
+    let head : f .value ≡ sizeAt s c 0 = size-first s c in
+    read-bind (times n (suc i) sizeRow) (λ (l : List ℕ). ends (f .value ∷ l)) s (f .next)
+    ∙ rw (rest, words, ← cursor-later s c n, head)
+
+pub rows-read : (s : List ℕ) (c : Cursor) (count : ℕ)
+    → _≡_ {A = Out (List ℕ)} (read (sizeRows count) s c) (record { value = tabulate count (sizeAt s (padded s c)); next = walked s c count .last })
+unfolding read sizeRows walked
+rows-read s c count =
+    read-bind (times count 0 sizeRow) (λ (sizes : List ℕ). row true padding 0 (λ r. 0) λ q. ends sizes) s (padded s c)
+    ∙ rw (times-read count 0 s (padded s c))

@@ -1,0 +1,5 @@
+pub mod Kinds
+pub mod Sizes
+pub mod Walks
+pub mod Reading
+pub mod Lookups
