@@ -1,0 +1,255 @@
+-- The theorem on a whole frame: sections and sent numbers, bytes, samples, and where a sample's section starts. One record of four parts, for
+-- either entry: over the tables as they are defined, and over the words of the lent tables after an accepted call.
+use Prim.Native.Nat.{ℕ, _+_, _-_, _≤_, _<_}
+use native.Mathlib.Omega.{arith}
+use mathlib.Core.Path.{_≡_, refl, sym, _∙_, ap}
+use mathlib.Core.List.{List}
+use mathlib.Core.Bool.{true}
+use lib.ListN.{length, getD}
+use lib.Dec.{ltb}
+use Rattle.bits.specs.Refusals.{pick, none}
+use Rattle.grid.specs.declared.Frame.{Frame}
+use Rattle.grid.specs.declared.Grid.{Grid}
+use Rattle.grid.specs.Sizes.{colorWidth, colorHeight, groupSide}
+use Rattle.grid.specs.Measured.{gridOf, laid}
+use Rattle.grid.proofs.Accepted.{accepted}
+use Rattle.grid.proofs.Answers.{judge-known}
+use Rattle.grid.proofs.Exactly.{Exactly, groups-exactly}
+use Rattle.order.specs.declared.SectionAnswer.{SectionAnswer}
+use Rattle.order.specs.Order.{isOrder}
+use Rattle.order.specs.Tables.{identity, inverseOf}
+use Rattle.order.specs.Sums.{sumTo}
+use Rattle.order.proofs.Sums.{sum-ext}
+use Rattle.order.proofs.Reach.{order-below, order-once, order-sum}
+use Rattle.order.proofs.Inverse.{inverse-order, inverse-back, inverse-there}
+use Rattle.order.proofs.Tables.{getD-tabulate}
+use Rattle.toc.specs.declared.Toc.{Toc}
+use Rattle.toc.specs.declared.TocRead.{TocRead}
+use Rattle.toc.specs.declared.TocRead.the-variants.{Table}
+use Rattle.toc.specs.declared.KindAnswer.{KindAnswer}
+use Rattle.toc.specs.Kinds.{numbersOf, sectionNumber, sectionOfKind, kindOf}
+use Rattle.toc.specs.Sizes.{sentBefore, offsetsBy, sizesBy}
+use Rattle.toc.specs.Reading.{Tables, tables, Reading, firstReading, secondReading, after, Done}
+use Rattle.toc.specs.Lookups.{sampleKind, sectionOfSample}
+use Rattle.toc.proofs.OfKinds.{number-below, of-kind-yes}
+use Rattle.toc.proofs.KindsBack.{kind-of-section-of}
+use Rattle.toc.proofs.Asking.{Sample, sample-has}
+use Rattle.toc.proofs.Accepted.{Accepted, first-accepted, second-accepted, offset-at, size-at, order-at, inverse-at}
+use Rattle.toc.proofs.Found.{sample-answer}
+use Rattle.toc.proofs.Bytes.{Spot, spot, spot-end, spot-once, sum-cut}
+
+-- ---- the words of the theorem: `t` is four tables, of which the words below the count speak
+
+-- byte b lies in section j: from its offset on, and before its offset plus its size
+pub record Holds (toc : Toc) (t : Tables) (b j : ℕ) : Type 0 where
+  pub section : j < toc .count
+  pub from : getD (t .offsets) j 0 ≤ b
+  pub to : b < getD (t .offsets) j 0 + getD (t .sizes) j 0
+
+-- the sizes of all sections that are sent before section j, summed section by section
+abbrev pub sentEarlier : Toc → Tables → ℕ → ℕ
+sentEarlier toc t j = sumTo (toc .count) (λ i. pick (ltb (getD (t .order) i 0) (getD (t .order) j 0)) (getD (t .sizes) i 0) 0)
+
+-- the section that is found for a sample and a pass, by its number
+abbrev pub foundFor : Frame → ℕ → ℕ → ℕ → ℕ
+foundFor f x y pass = sectionOfSample f x y pass .section .0
+
+-- ---- the four parts
+
+-- from a section to its sent number and back, and from a sent number to its section and back; neither leaves the count
+pub record ThereAndBack (toc : Toc) (t : Tables) : Type 0 where
+  pub sent : (j : ℕ) → j < toc .count → getD (t .order) j 0 < toc .count
+  pub section : (k : ℕ) → k < toc .count → getD (t .inverse) k 0 < toc .count
+  pub back : (j : ℕ) → j < toc .count → getD (t .inverse) (getD (t .order) j 0) 0 ≡ j
+  pub there : (k : ℕ) → k < toc .count → getD (t .order) (getD (t .inverse) k 0) 0 ≡ k
+
+-- each byte from the data start to the data start plus the total lies in exactly one section, and no section holds another byte
+pub record OneByteOneSection (toc : Toc) (t : Tables) : Type 0 where
+  pub some : (b : ℕ) → toc .bookmark ≤ b → b < toc .bookmark + toc .«total_byte_size» → (j : ℕ) × Holds toc t b j
+  pub only : (b i j : ℕ) → Holds toc t b i → Holds toc t b j → i ≡ j
+  pub within : (b j : ℕ) → Holds toc t b j → (toc .bookmark ≤ b) × (b < toc .bookmark + toc .«total_byte_size»)
+  -- a section of size zero holds none
+  pub empty : (b j : ℕ) → getD (t .sizes) j 0 ≡ 0 → Holds toc t b j → ⊥
+
+-- the section that is found for a sample and a pass: one of the table, of the sample's kind, that starts at the data start plus the sizes of
+-- all sections sent before it. `sent` is the sizes as they were sent.
+pub record FoundWhereSent (f : Frame) (toc : Toc) (sent : List ℕ) (t : Tables) (x y pass : ℕ) : Type 0 where
+  pub answered : sectionOfSample f x y pass .refusal ≡ none
+  pub section : foundFor f x y pass < toc .count
+  -- All, or GroupPass of the pass and of the group whose rectangle holds the sample
+  pub kind : _≡_ {A = KindAnswer} (kindOf f (sectionOfSample f x y pass .section)) (record { kind = sampleKind (gridOf f) x y pass; refusal = none })
+  -- summed in sent order, and summed over the sections
+  pub starts : getD (t .offsets) (foundFor f x y pass) 0 ≡ toc .bookmark + sentBefore sent (getD (t .order) (foundFor f x y pass) 0)
+  pub starts-by-section : getD (t .offsets) (foundFor f x y pass) 0 ≡ toc .bookmark + sentEarlier toc t (foundFor f x y pass)
+
+pub record Demand (f : Frame) (toc : Toc) (sent : List ℕ) (t : Tables) : Type 0 where
+  pub there-and-back : ThereAndBack toc t
+  pub one-byte-one-section : OneByteOneSection toc t
+  -- each colour sample lies in the clipped rectangle of exactly one group
+  pub one-sample-one-rectangle : Exactly (colorWidth f) (colorHeight f) (groupSide f)
+  pub found-where-sent : (x y pass : ℕ) → x < colorWidth f → y < colorHeight f → pass < f .«num_passes» → FoundWhereSent f toc sent t x y pass
+
+-- ---- the tables that it holds of
+
+-- the four tables of a reading, as they are defined
+abbrev pub defined : Toc → Reading → Tables
+defined toc q =
+    tables (offsetsBy (toc .count) (toc .bookmark) (q .sizes) (q .order)) (sizesBy (toc .count) (q .sizes) (q .order)) (q .order) (inverseOf (toc .count) (q .order))
+
+-- the words below the count are those of the reading's order and sizes
+pub record Written (toc : Toc) (q : Reading) (t : Tables) : Type 0 where
+  pub offsets : (j : ℕ) → j < toc .count → getD (t .offsets) j 0 ≡ toc .bookmark + sentBefore (q .sizes) (getD (q .order) j 0)
+  pub sizes : (j : ℕ) → j < toc .count → getD (t .sizes) j 0 ≡ getD (q .sizes) (getD (q .order) j 0) 0
+  pub order : (j : ℕ) → j < toc .count → getD (t .order) j 0 ≡ getD (q .order) j 0
+  pub inverse : (k : ℕ) → k < toc .count → getD (t .inverse) k 0 ≡ getD (inverseOf (toc .count) (q .order)) k 0
+
+-- of the definitions
+pub written-defined : (toc : Toc) (q : Reading) → Written toc q (defined toc q)
+unfolding offsetsBy sizesBy
+written-defined toc q = record {
+  offsets = λ j l. getD-tabulate (toc .count) (λ i. toc .bookmark + sentBefore (q .sizes) (getD (q .order) i 0)) j l;
+  sizes = λ j l. getD-tabulate (toc .count) (λ i. getD (q .sizes) (getD (q .order) i 0) 0) j l;
+  order = λ j l. refl;
+  inverse = λ k l. refl;
+}
+
+-- and of the lent tables after a call that answered a table
+pub written-words : (s : List ℕ) (f : Frame) (t : Tables) (toc : Toc) (q : Reading) → Accepted s f t toc q → (r : TocRead) (o z p i : List ℕ) → Done q t r o z p i
+    → Written toc q (tables o z p i)
+written-words s f t toc q a r o z p i d = record {
+  offsets = λ j l. ap (λ (x : List ℕ). getD x j 0) (d .offsets) ∙ offset-at s f t toc q a j l;
+  sizes = λ j l. ap (λ (x : List ℕ). getD x j 0) (d .sizes) ∙ size-at s f t toc q a j l;
+  order = λ j l. ap (λ (x : List ℕ). getD x j 0) (d .order) ∙ order-at s f t toc q a j l;
+  inverse = λ k l. ap (λ (x : List ℕ). getD x k 0) (d .inverse) ∙ inverse-at s f t toc q a k l;
+}
+
+-- ---- the proof, for any tables with these words
+
+abbrev sizeSent : Reading → ℕ → ℕ
+sizeSent q k = getD (q .sizes) k 0
+
+module _ (s : List ℕ) (f : Frame) (lent : Tables) (toc : Toc) (q : Reading) (a : Accepted s f lent toc q) (t : Tables) (w : Written toc q t) where
+  sent-below : (j : ℕ) → j < toc .count → getD (q .order) j 0 < toc .count
+  sent-below j l = order-below (toc .count) (q .order) (a .order) j l
+
+  section-below : (k : ℕ) → k < toc .count → getD (inverseOf (toc .count) (q .order)) k 0 < toc .count
+  section-below k l = order-below (toc .count) (inverseOf (toc .count) (q .order)) (inverse-order (toc .count) (q .order) (a .order)) k l
+
+  there-back : ThereAndBack toc t
+  there-back = record {
+    sent = λ j l. rw (w .order j l) (sent-below j l);
+    section = λ k l. rw (w .inverse k l) (section-below k l);
+    back = λ j l. rw (w .order j l, w .inverse (getD (q .order) j 0) (sent-below j l)) (inverse-back (toc .count) (q .order) (a .order) j l);
+    there = λ k l. rw (w .inverse k l, w .order (getD (inverseOf (toc .count) (q .order)) k 0) (section-below k l)) (inverse-there (toc .count) (q .order) (a .order) k l);
+  }
+
+  -- the sizes sent before a number, as a sum of terms
+  before : (k : ℕ) → sentBefore (q .sizes) k ≡ sumTo k (sizeSent q)
+  unfolding sentBefore
+  before k = refl
+
+  -- a byte in a section lies in the term of its sent number
+  holds-spot : (b j : ℕ) → Holds toc t b j → (toc .bookmark ≤ b) × Spot (sizeSent q) (b - toc .bookmark) (getD (q .order) j 0)
+  holds-spot b j h =
+      let o = w .offsets j (h .section) ∙ ap (λ (x : ℕ). toc .bookmark + x) (before (getD (q .order) j 0)) in
+      let z = w .sizes j (h .section) in
+      (omega (arith, h .from), record { from = omega (arith, h .from); to = omega (arith, h .from, h .to) })
+
+  spot-holds : (b j : ℕ) → j < toc .count → toc .bookmark ≤ b → Spot (sizeSent q) (b - toc .bookmark) (getD (q .order) j 0) → Holds toc t b j
+  spot-holds b j l h x =
+      let o = w .offsets j l ∙ ap (λ (x : ℕ). toc .bookmark + x) (before (getD (q .order) j 0)) in
+      let z = w .sizes j l in
+      record { section = l; from = omega (arith, x .from); to = omega (arith, x .to) }
+
+  one-byte : OneByteOneSection toc t
+  one-byte = record {
+    some = λ b from to.
+        let total : toc .«total_byte_size» ≡ sumTo (toc .count) (sizeSent q) = a .total ∙ before (toc .count) in
+        let at = spot (toc .count) (sizeSent q) (b - toc .bookmark) (omega arith) in
+        let j : ℕ = getD (inverseOf (toc .count) (q .order)) (at .0) 0 in
+        let is : getD (q .order) j 0 ≡ at .0 = inverse-there (toc .count) (q .order) (a .order) (at .0) (at .1) in
+        (j, spot-holds b j (section-below (at .0) (at .1)) from (rw is (at .2)));
+    only = λ b i j x y.
+        order-once (toc .count) (q .order) (a .order) i j (x .section) (y .section)
+        (spot-once (sizeSent q) (b - toc .bookmark) (getD (q .order) i 0) (getD (q .order) j 0) (holds-spot b i x .1) (holds-spot b j y .1));
+    within = λ b j x.
+        let at = holds-spot b j x in
+        let total : toc .«total_byte_size» ≡ sumTo (toc .count) (sizeSent q) = a .total ∙ before (toc .count) in
+        (at .0, omega (arith, at .0, at .1 .to, spot-end (toc .count) (sizeSent q) (getD (q .order) j 0) (sent-below j (x .section))));
+    empty = λ b j z x. omega (arith, x .from, x .to);
+  }
+
+  -- the sizes sent before a section, over the sections
+  by-section : (j : ℕ) → j < toc .count → sentEarlier toc t j ≡ sentBefore (q .sizes) (getD (q .order) j 0)
+  unfolding sentBefore
+  by-section j l =
+      let m : ℕ = getD (q .order) j 0 in
+      sum-ext (toc .count) (λ i. pick (ltb (getD (t .order) i 0) (getD (t .order) j 0)) (getD (t .sizes) i 0) 0) (λ i. pick (ltb (getD (q .order) i 0) m) (sizeSent q (getD (q .order) i 0)) 0)
+      (λ i h. rw (w .order i h, w .order j l, w .sizes i h))
+      ∙ order-sum (toc .count) (q .order) (a .order) (λ k. pick (ltb k m) (sizeSent q k) 0)
+      ∙ sum-cut (toc .count) m (sizeSent q) (omega (arith, sent-below j l))
+
+  starts-at : (j : ℕ) → j < toc .count → getD (t .offsets) j 0 ≡ toc .bookmark + sentBefore (q .sizes) (getD (t .order) j 0)
+  starts-at j l = w .offsets j l ∙ ap (λ (k : ℕ). toc .bookmark + sentBefore (q .sizes) k) (sym (w .order j l))
+
+  -- a sample of the colour sample size is one of the grid
+  sampled : (x y pass : ℕ) → x < colorWidth f → y < colorHeight f → pass < f .«num_passes» → Sample (gridOf f) (f .«num_passes») x y pass
+  unfolding laid
+  sampled x y pass hx hy hp = rw (accepted f (a .frame) .grid) (record { across = hx; down = hy; early = hp })
+
+  found : (x y pass : ℕ) → Sample (gridOf f) (f .«num_passes») x y pass → FoundWhereSent f toc (q .sizes) t x y pass
+  found x y pass h =
+      let g : Grid = gridOf f in
+      let is = sample-answer f (a .frame) x y pass h in
+      let number : ℕ = sectionNumber g (numbersOf (sampleKind g x y pass)) in
+      let has = sample-has f g (a .counts) x y pass h in
+      let of = of-kind-yes f g refl none (sampleKind g x y pass) (numbersOf (sampleKind g x y pass)) refl true (sym has) (judge-known g true none (a .frame) refl refl) number refl refl in
+      let n : foundFor f x y pass ≡ number = ap (λ (r : SectionAnswer). r .section .0) is in
+      let l : foundFor f x y pass < toc .count = omega (arith, n, a .count, number-below f g (a .counts) (numbersOf (sampleKind g x y pass)) has) in
+      record {
+        answered = ap (λ (r : SectionAnswer). r .refusal) is;
+        section = l;
+        kind =
+            ap (λ (r : SectionAnswer). kindOf f (r .section)) (is ∙ of)
+            ∙ kind-of-section-of f (sampleKind g x y pass) (ap (λ (r : SectionAnswer). r .refusal .number) (sym of));
+        starts = starts-at (foundFor f x y pass) l;
+        starts-by-section = w .offsets (foundFor f x y pass) l ∙ ap (λ (k : ℕ). toc .bookmark + k) (sym (by-section (foundFor f x y pass) l));
+      }
+
+  pub demand : Demand f toc (q .sizes) t
+  demand = record {
+    there-and-back = there-back;
+    one-byte-one-section = one-byte;
+    one-sample-one-rectangle = groups-exactly f (a .frame);
+    found-where-sent = λ x y pass hx hy hp. found x y pass (sampled x y pass hx hy hp);
+  }
+
+-- ---- the theorem: the first entry
+
+module _ (s : List ℕ) (f : Frame) (place : ℕ) (t : Tables) (toc : Toc) (e : firstReading s f place t .answer ≡ Table toc) where
+  pub first-demand : Demand f toc (firstReading s f place t .sizes) (defined toc (firstReading s f place t))
+  first-demand =
+      let q : Reading = firstReading s f place t in
+      demand s f t toc q (first-accepted s f place t toc e .0) (defined toc q) (written-defined toc q)
+
+  -- the lent tables after the call
+  pub first-written : (r : TocRead) (o z p i : List ℕ) → Done (firstReading s f place t) t r o z p i → Demand f toc (firstReading s f place t .sizes) (tables o z p i)
+  first-written r o z p i d =
+      let q : Reading = firstReading s f place t in
+      let ok = first-accepted s f place t toc e .0 in
+      demand s f t toc q ok (tables o z p i) (written-words s f t toc q ok r o z p i d)
+
+-- ---- the theorem: the second entry
+
+module _ (s : List ℕ) (f : Frame) (place : ℕ) (order : List ℕ) (t : Tables) (toc : Toc) (e : secondReading s f place order t .answer ≡ Table toc) where
+  pub second-demand : Demand f toc (secondReading s f place order t .sizes) (defined toc (secondReading s f place order t))
+  second-demand =
+      let q : Reading = secondReading s f place order t in
+      demand s f t toc q (second-accepted s f place order t toc e .0) (defined toc q) (written-defined toc q)
+
+  -- the lent tables after the call
+  pub second-written : (r : TocRead) (o z p i : List ℕ) → Done (secondReading s f place order t) t r o z p i → Demand f toc (secondReading s f place order t .sizes) (tables o z p i)
+  second-written r o z p i d =
+      let q : Reading = secondReading s f place order t in
+      let ok = second-accepted s f place order t toc e .0 in
+      demand s f t toc q ok (tables o z p i) (written-words s f t toc q ok r o z p i d)
