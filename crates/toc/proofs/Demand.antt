@@ -10,10 +10,12 @@ use lib.Dec.{ltb}
 use Rattle.bits.specs.Refusals.{pick, none}
 use Rattle.grid.specs.declared.Frame.{Frame}
 use Rattle.grid.specs.declared.Grid.{Grid}
-use Rattle.grid.specs.Sizes.{colorWidth, colorHeight, groupSide}
+use Rattle.grid.specs.Sizes.{up, colorWidth, colorHeight, groupSide}
 use Rattle.grid.specs.Measured.{gridOf, laid}
+use Rattle.grid.specs.Groups.{rectOf, indexAt}
 use Rattle.grid.proofs.Accepted.{accepted}
 use Rattle.grid.proofs.Answers.{judge-known}
+use Rattle.grid.proofs.Cover.{In}
 use Rattle.grid.proofs.Exactly.{Exactly, groups-exactly}
 use Rattle.order.specs.declared.SectionAnswer.{SectionAnswer}
 use Rattle.order.specs.Order.{isOrder}
@@ -26,6 +28,8 @@ use Rattle.order.proofs.Tables.{getD-tabulate}
 use Rattle.toc.specs.declared.Toc.{Toc}
 use Rattle.toc.specs.declared.TocRead.{TocRead}
 use Rattle.toc.specs.declared.TocRead.the-variants.{Table}
+use Rattle.toc.specs.declared.TocGroupKind.{TocGroupKind}
+use Rattle.toc.specs.declared.TocGroupKind.the-variants.{All, GroupPass}
 use Rattle.toc.specs.declared.KindAnswer.{KindAnswer}
 use Rattle.toc.specs.Kinds.{numbersOf, sectionNumber, sectionOfKind, kindOf}
 use Rattle.toc.specs.Sizes.{sentBefore, offsetsBy, sizesBy}
@@ -33,7 +37,7 @@ use Rattle.toc.specs.Reading.{Tables, tables, Reading, firstReading, sec
 use Rattle.toc.specs.Lookups.{sampleKind, sectionOfSample}
 use Rattle.toc.proofs.OfKinds.{number-below, of-kind-yes}
 use Rattle.toc.proofs.KindsBack.{kind-of-section-of}
-use Rattle.toc.proofs.Asking.{Sample, sample-has}
+use Rattle.toc.proofs.Asking.{Sample, sample-all, sample-group, sample-has}
 use Rattle.toc.proofs.Accepted.{Accepted, first-accepted, second-accepted, offset-at, size-at, order-at, inverse-at}
 use Rattle.toc.proofs.Found.{sample-answer}
 use Rattle.toc.proofs.Bytes.{Spot, spot, spot-end, spot-once, sum-cut}
@@ -56,15 +60,19 @@ foundFor f x y pass = sectionOfSample f x y pass .section .0
 
 -- ---- the four parts
 
--- from a section to its sent number and back, and from a sent number to its section and back; neither leaves the count
-pub record ThereAndBack (toc : Toc) (t : Tables) : Type 0 where
+-- from a section to its sent number and back, and from a sent number to its section and back; neither leaves the count. The order is the one
+-- that is due: of the first entry the identity, of the second the lent one.
+pub record ThereAndBack (toc : Toc) (order : List ℕ) (t : Tables) : Type 0 where
+  pub due : (j : ℕ) → j < toc .count → getD (t .order) j 0 ≡ getD order j 0
   pub sent : (j : ℕ) → j < toc .count → getD (t .order) j 0 < toc .count
   pub section : (k : ℕ) → k < toc .count → getD (t .inverse) k 0 < toc .count
   pub back : (j : ℕ) → j < toc .count → getD (t .inverse) (getD (t .order) j 0) 0 ≡ j
   pub there : (k : ℕ) → k < toc .count → getD (t .order) (getD (t .inverse) k 0) 0 ≡ k
 
--- each byte from the data start to the data start plus the total lies in exactly one section, and no section holds another byte
-pub record OneByteOneSection (toc : Toc) (t : Tables) : Type 0 where
+-- each byte from the data start to the data start plus the total lies in exactly one section, and no section holds another byte. A section
+-- has the size that was sent for it.
+pub record OneByteOneSection (toc : Toc) (sent : List ℕ) (t : Tables) : Type 0 where
+  pub size : (j : ℕ) → j < toc .count → getD (t .sizes) j 0 ≡ getD sent (getD (t .order) j 0) 0
   pub some : (b : ℕ) → toc .bookmark ≤ b → b < toc .bookmark + toc .«total_byte_size» → (j : ℕ) × Holds toc t b j
   pub only : (b i j : ℕ) → Holds toc t b i → Holds toc t b j → i ≡ j
   pub within : (b j : ℕ) → Holds toc t b j → (toc .bookmark ≤ b) × (b < toc .bookmark + toc .«total_byte_size»)
@@ -76,15 +84,18 @@ pub record OneByteOneSection (toc : Toc) (t : Tables) : Type 0 where
 pub record FoundWhereSent (f : Frame) (toc : Toc) (sent : List ℕ) (t : Tables) (x y pass : ℕ) : Type 0 where
   pub answered : sectionOfSample f x y pass .refusal ≡ none
   pub section : foundFor f x y pass < toc .count
-  -- All, or GroupPass of the pass and of the group whose rectangle holds the sample
-  pub kind : _≡_ {A = KindAnswer} (kindOf f (sectionOfSample f x y pass .section)) (record { kind = sampleKind (gridOf f) x y pass; refusal = none })
+  -- it is the only section, All; or that GroupPass, of the pass and of the group whose rectangle holds the sample
+  pub all : toc .count ≡ 1 → _≡_ {A = KindAnswer} (kindOf f (sectionOfSample f x y pass .section)) (record { kind = All; refusal = none })
+  pub group : (toc .count ≡ 1 → ⊥) → (i : ℕ) → In (rectOf (colorWidth f) (colorHeight f) (groupSide f) i) x y
+      → _≡_ {A = KindAnswer} (kindOf f (sectionOfSample f x y pass .section)) (record { kind = GroupPass pass i; refusal = none })
   -- summed in sent order, and summed over the sections
   pub starts : getD (t .offsets) (foundFor f x y pass) 0 ≡ toc .bookmark + sentBefore sent (getD (t .order) (foundFor f x y pass) 0)
   pub starts-by-section : getD (t .offsets) (foundFor f x y pass) 0 ≡ toc .bookmark + sentEarlier toc t (foundFor f x y pass)
 
-pub record Demand (f : Frame) (toc : Toc) (sent : List ℕ) (t : Tables) : Type 0 where
-  pub there-and-back : ThereAndBack toc t
-  pub one-byte-one-section : OneByteOneSection toc t
+-- the four together: of a frame, what was answered, the order that is due, the sizes as they were sent, and four tables
+pub record Demand (f : Frame) (toc : Toc) (order sent : List ℕ) (t : Tables) : Type 0 where
+  pub there-and-back : ThereAndBack toc order t
+  pub one-byte-one-section : OneByteOneSection toc sent t
   -- each colour sample lies in the clipped rectangle of exactly one group
   pub one-sample-one-rectangle : Exactly (colorWidth f) (colorHeight f) (groupSide f)
   pub found-where-sent : (x y pass : ℕ) → x < colorWidth f → y < colorHeight f → pass < f .«num_passes» → FoundWhereSent f toc sent t x y pass
@@ -125,6 +136,9 @@ written-words s f t toc q a r o z p i d = record {
 
 -- ---- the proof, for any tables with these words
 
+abbrev kinded : TocGroupKind → KindAnswer
+kinded k = record { kind = k; refusal = none }
+
 abbrev sizeSent : Reading → ℕ → ℕ
 sizeSent q k = getD (q .sizes) k 0
 
@@ -135,8 +149,9 @@ module _ (s : List ℕ) (f : Frame) (lent : Tables) (toc : Toc) (q : Reading) (a
   section-below : (k : ℕ) → k < toc .count → getD (inverseOf (toc .count) (q .order)) k 0 < toc .count
   section-below k l = order-below (toc .count) (inverseOf (toc .count) (q .order)) (inverse-order (toc .count) (q .order) (a .order)) k l
 
-  there-back : ThereAndBack toc t
+  there-back : ThereAndBack toc (q .order) t
   there-back = record {
+    due = w .order;
     sent = λ j l. rw (w .order j l) (sent-below j l);
     section = λ k l. rw (w .inverse k l) (section-below k l);
     back = λ j l. rw (w .order j l, w .inverse (getD (q .order) j 0) (sent-below j l)) (inverse-back (toc .count) (q .order) (a .order) j l);
@@ -161,8 +176,9 @@ module _ (s : List ℕ) (f : Frame) (lent : Tables) (toc : Toc) (q : Reading) (a
       let z = w .sizes j l in
       record { section = l; from = omega (arith, x .from); to = omega (arith, x .to) }
 
-  one-byte : OneByteOneSection toc t
+  one-byte : OneByteOneSection toc (q .sizes) t
   one-byte = record {
+    size = λ j l. rw (w .order j l) (w .sizes j l);
     some = λ b from to.
         let total : toc .«total_byte_size» ≡ sumTo (toc .count) (sizeSent q) = a .total ∙ before (toc .count) in
         let at = spot (toc .count) (sizeSent q) (b - toc .bookmark) (omega arith) in
@@ -192,64 +208,94 @@ module _ (s : List ℕ) (f : Frame) (lent : Tables) (toc : Toc) (q : Reading) (a
   starts-at : (j : ℕ) → j < toc .count → getD (t .offsets) j 0 ≡ toc .bookmark + sentBefore (q .sizes) (getD (t .order) j 0)
   starts-at j l = w .offsets j l ∙ ap (λ (k : ℕ). toc .bookmark + sentBefore (q .sizes) k) (sym (w .order j l))
 
+  -- the grid's numbers are the frame's
+  columns : gridOf f .columns ≡ up (colorWidth f) (groupSide f)
+  unfolding laid
+  columns = ap (λ (g : Grid). g .columns) (accepted f (a .frame) .grid)
+
+  side : gridOf f .side ≡ groupSide f
+  unfolding laid
+  side = ap (λ (g : Grid). g .side) (accepted f (a .frame) .grid)
+
   -- a sample of the colour sample size is one of the grid
   sampled : (x y pass : ℕ) → x < colorWidth f → y < colorHeight f → pass < f .«num_passes» → Sample (gridOf f) (f .«num_passes») x y pass
   unfolding laid
   sampled x y pass hx hy hp = rw (accepted f (a .frame) .grid) (record { across = hx; down = hy; early = hp })
 
-  found : (x y pass : ℕ) → Sample (gridOf f) (f .«num_passes») x y pass → FoundWhereSent f toc (q .sizes) t x y pass
-  found x y pass h =
+  -- the group whose rectangle holds a sample
+  group-is : (x y i : ℕ) → In (rectOf (colorWidth f) (colorHeight f) (groupSide f) i) x y → x < colorWidth f → y < colorHeight f
+      → indexAt (gridOf f .columns) (gridOf f .side) x y ≡ i
+  group-is x y i at hx hy =
+      let e = groups-exactly f (a .frame) in
+      rw (columns, side) (e .only x y _ i (e .inside x y hx hy) at)
+
+  found : (x y pass : ℕ) → x < colorWidth f → y < colorHeight f → pass < f .«num_passes» → FoundWhereSent f toc (q .sizes) t x y pass
+  found x y pass hx hy hp =
       let g : Grid = gridOf f in
+      let h : Sample g (f .«num_passes») x y pass = sampled x y pass hx hy hp in
       let is = sample-answer f (a .frame) x y pass h in
       let number : ℕ = sectionNumber g (numbersOf (sampleKind g x y pass)) in
       let has = sample-has f g (a .counts) x y pass h in
       let of = of-kind-yes f g refl none (sampleKind g x y pass) (numbersOf (sampleKind g x y pass)) refl true (sym has) (judge-known g true none (a .frame) refl refl) number refl refl in
       let n : foundFor f x y pass ≡ number = ap (λ (r : SectionAnswer). r .section .0) is in
       let l : foundFor f x y pass < toc .count = omega (arith, n, a .count, number-below f g (a .counts) (numbersOf (sampleKind g x y pass)) has) in
+      let kind =
+      ap (λ (r : SectionAnswer). kindOf f (r .section)) (is ∙ of)
+      ∙ kind-of-section-of f (sampleKind g x y pass) (ap (λ (r : SectionAnswer). r .refusal .number) (sym of)) in
       record {
         answered = ap (λ (r : SectionAnswer). r .refusal) is;
         section = l;
-        kind =
-            ap (λ (r : SectionAnswer). kindOf f (r .section)) (is ∙ of)
-            ∙ kind-of-section-of f (sampleKind g x y pass) (ap (λ (r : SectionAnswer). r .refusal .number) (sym of));
+        all = λ one. kind ∙ ap kinded (sym (sample-all g x y pass (sym (a .count) ∙ one)));
+        group = λ several i at.
+            kind
+            ∙ ap kinded (sym (sample-group g x y pass (λ one. several (a .count ∙ one))))
+            ∙ ap (λ (n : ℕ). kinded (GroupPass pass n)) (group-is x y i at hx hy);
         starts = starts-at (foundFor f x y pass) l;
         starts-by-section = w .offsets (foundFor f x y pass) l ∙ ap (λ (k : ℕ). toc .bookmark + k) (sym (by-section (foundFor f x y pass) l));
       }
 
-  pub demand : Demand f toc (q .sizes) t
+  pub demand : Demand f toc (q .order) (q .sizes) t
   demand = record {
     there-and-back = there-back;
     one-byte-one-section = one-byte;
     one-sample-one-rectangle = groups-exactly f (a .frame);
-    found-where-sent = λ x y pass hx hy hp. found x y pass (sampled x y pass hx hy hp);
+    found-where-sent = found;
   }
 
--- ---- the theorem: the first entry
+-- the same order by another name
+due-order : (f : Frame) (toc : Toc) (l m sent : List ℕ) (t : Tables) → l ≡ m → Demand f toc l sent t → Demand f toc m sent t
+due-order f toc l m sent t e d = rw (← e) d
 
+-- ---- the theorem
+
+-- the first entry: whatever the bytes, the frame, the place and the lent tables, if a table is answered
 module _ (s : List ℕ) (f : Frame) (place : ℕ) (t : Tables) (toc : Toc) (e : firstReading s f place t .answer ≡ Table toc) where
-  pub first-demand : Demand f toc (firstReading s f place t .sizes) (defined toc (firstReading s f place t))
+  -- of the tables as they are defined
+  pub first-demand : Demand f toc (identity (toc .count)) (firstReading s f place t .sizes) (defined toc (firstReading s f place t))
   first-demand =
       let q : Reading = firstReading s f place t in
-      demand s f t toc q (first-accepted s f place t toc e .0) (defined toc q) (written-defined toc q)
+      let ok = first-accepted s f place t toc e in
+      due-order f toc (q .order) _ (q .sizes) _ (ok .1) (demand s f t toc q (ok .0) (defined toc q) (written-defined toc q))
 
-  -- the lent tables after the call
-  pub first-written : (r : TocRead) (o z p i : List ℕ) → Done (firstReading s f place t) t r o z p i → Demand f toc (firstReading s f place t .sizes) (tables o z p i)
+  -- of the lent tables after the call
+  pub first-written : (r : TocRead) (o z p i : List ℕ) → Done (firstReading s f place t) t r o z p i
+      → Demand f toc (identity (toc .count)) (firstReading s f place t .sizes) (tables o z p i)
   first-written r o z p i d =
       let q : Reading = firstReading s f place t in
-      let ok = first-accepted s f place t toc e .0 in
-      demand s f t toc q ok (tables o z p i) (written-words s f t toc q ok r o z p i d)
+      let ok = first-accepted s f place t toc e in
+      due-order f toc (q .order) _ (q .sizes) _ (ok .1) (demand s f t toc q (ok .0) (tables o z p i) (written-words s f t toc q (ok .0) r o z p i d))
 
--- ---- the theorem: the second entry
-
+-- the second entry: the same, and whatever the lent order
 module _ (s : List ℕ) (f : Frame) (place : ℕ) (order : List ℕ) (t : Tables) (toc : Toc) (e : secondReading s f place order t .answer ≡ Table toc) where
-  pub second-demand : Demand f toc (secondReading s f place order t .sizes) (defined toc (secondReading s f place order t))
+  pub second-demand : Demand f toc order (secondReading s f place order t .sizes) (defined toc (secondReading s f place order t))
   second-demand =
       let q : Reading = secondReading s f place order t in
-      demand s f t toc q (second-accepted s f place order t toc e .0) (defined toc q) (written-defined toc q)
+      let ok = second-accepted s f place order t toc e in
+      due-order f toc (q .order) _ (q .sizes) _ (ok .1) (demand s f t toc q (ok .0) (defined toc q) (written-defined toc q))
 
-  -- the lent tables after the call
-  pub second-written : (r : TocRead) (o z p i : List ℕ) → Done (secondReading s f place order t) t r o z p i → Demand f toc (secondReading s f place order t .sizes) (tables o z p i)
+  pub second-written : (r : TocRead) (o z p i : List ℕ) → Done (secondReading s f place order t) t r o z p i
+      → Demand f toc order (secondReading s f place order t .sizes) (tables o z p i)
   second-written r o z p i d =
       let q : Reading = secondReading s f place order t in
-      let ok = second-accepted s f place order t toc e .0 in
-      demand s f t toc q ok (tables o z p i) (written-words s f t toc q ok r o z p i d)
+      let ok = second-accepted s f place order t toc e in
+      due-order f toc (q .order) _ (q .sizes) _ (ok .1) (demand s f t toc q (ok .0) (tables o z p i) (written-words s f t toc q (ok .0) r o z p i d))
