@@ -5,7 +5,7 @@ use native.Mathlib.Omega.{arith}
 use mathlib.Core.Path.{_≡_, refl, sym, _∙_, ap}
 use mathlib.Core.List.{List}
 use mathlib.Core.Bool.{true}
-use lib.ListN.{length, getD}
+use lib.ListN.{getD}
 use lib.Dec.{ltb}
 use Rattle.bits.specs.Refusals.{pick, none}
 use Rattle.grid.specs.declared.Frame.{Frame}
@@ -18,7 +18,6 @@ use Rattle.grid.proofs.Answers.{judge-known}
 use Rattle.grid.proofs.Cover.{In}
 use Rattle.grid.proofs.Exactly.{Exactly, groups-exactly}
 use Rattle.order.specs.declared.SectionAnswer.{SectionAnswer}
-use Rattle.order.specs.Order.{isOrder}
 use Rattle.order.specs.Tables.{identity, inverseOf}
 use Rattle.order.specs.Sums.{sumTo}
 use Rattle.order.proofs.Sums.{sum-ext}
@@ -26,14 +25,13 @@ use Rattle.order.proofs.Reach.{order-below, order-once, order-sum}
 use Rattle.order.proofs.Inverse.{inverse-order, inverse-back, inverse-there}
 use Rattle.order.proofs.Tables.{getD-tabulate}
 use Rattle.toc.specs.declared.Toc.{Toc}
-use Rattle.toc.specs.declared.TocRead.{TocRead}
 use Rattle.toc.specs.declared.TocRead.the-variants.{Table}
 use Rattle.toc.specs.declared.TocGroupKind.{TocGroupKind}
 use Rattle.toc.specs.declared.TocGroupKind.the-variants.{All, GroupPass}
 use Rattle.toc.specs.declared.KindAnswer.{KindAnswer}
-use Rattle.toc.specs.Kinds.{numbersOf, sectionNumber, sectionOfKind, kindOf}
+use Rattle.toc.specs.Kinds.{numbersOf, sectionNumber, kindOf}
 use Rattle.toc.specs.Sizes.{sentBefore, offsetsBy, sizesBy}
-use Rattle.toc.specs.Reading.{Tables, tables, Reading, firstReading, secondReading, after, Done}
+use Rattle.toc.specs.Reading.{Tables, tables, Reading, firstReading, secondReading, Done}
 use Rattle.toc.specs.Lookups.{sampleKind, sectionOfSample}
 use Rattle.toc.proofs.OfKinds.{number-below, of-kind-yes}
 use Rattle.toc.proofs.KindsBack.{kind-of-section-of}
@@ -42,15 +40,15 @@ use Rattle.toc.proofs.Accepted.{Accepted, first-accepted, second-accept
 use Rattle.toc.proofs.Found.{sample-answer}
 use Rattle.toc.proofs.Bytes.{Spot, spot, spot-end, spot-once, sum-cut}
 
--- ---- the words of the theorem: `t` is four tables, of which the words below the count speak
+-- ---- the words of the theorem. Of four tables `t` it speaks of the words below the count: offset[j], size[j], order[j], inverse[k].
 
--- byte b lies in section j: from its offset on, and before its offset plus its size
+-- byte b lies in section j: there is such a section, and offset[j] ≤ b < offset[j] + size[j]
 pub record Holds (toc : Toc) (t : Tables) (b j : ℕ) : Type 0 where
   pub section : j < toc .count
   pub from : getD (t .offsets) j 0 ≤ b
   pub to : b < getD (t .offsets) j 0 + getD (t .sizes) j 0
 
--- the sizes of all sections that are sent before section j, summed section by section
+-- the sum of size[i] over all sections i with order[i] < order[j]: those that are sent before section j
 abbrev pub sentEarlier : Toc → Tables → ℕ → ℕ
 sentEarlier toc t j = sumTo (toc .count) (λ i. pick (ltb (getD (t .order) i 0) (getD (t .order) j 0)) (getD (t .sizes) i 0) 0)
 
@@ -60,36 +58,44 @@ foundFor f x y pass = sectionOfSample f x y pass .section .0
 
 -- ---- the four parts
 
--- from a section to its sent number and back, and from a sent number to its section and back; neither leaves the count. The order is the one
--- that is due: of the first entry the identity, of the second the lent one.
+-- sections to sent numbers and back, from either side; `order` is the order that is due
 pub record ThereAndBack (toc : Toc) (order : List ℕ) (t : Tables) : Type 0 where
+  -- the table of the order holds the order that is due
   pub due : (j : ℕ) → j < toc .count → getD (t .order) j 0 ≡ getD order j 0
+  -- a section's sent number is below the count, and a sent number's section too
   pub sent : (j : ℕ) → j < toc .count → getD (t .order) j 0 < toc .count
   pub section : (k : ℕ) → k < toc .count → getD (t .inverse) k 0 < toc .count
+  -- inverse[order[j]] is j, for every section
   pub back : (j : ℕ) → j < toc .count → getD (t .inverse) (getD (t .order) j 0) 0 ≡ j
+  -- order[inverse[k]] is k, for every sent number
   pub there : (k : ℕ) → k < toc .count → getD (t .order) (getD (t .inverse) k 0) 0 ≡ k
 
--- each byte from the data start to the data start plus the total lies in exactly one section, and no section holds another byte. A section
--- has the size that was sent for it.
+-- each byte from the data start to the data start plus the total lies in exactly one section; `sent` is the sizes as they were sent
 pub record OneByteOneSection (toc : Toc) (sent : List ℕ) (t : Tables) : Type 0 where
+  -- a section has the size that was sent as its number
   pub size : (j : ℕ) → j < toc .count → getD (t .sizes) j 0 ≡ getD sent (getD (t .order) j 0) 0
+  -- there is a section that holds the byte
   pub some : (b : ℕ) → toc .bookmark ≤ b → b < toc .bookmark + toc .«total_byte_size» → (j : ℕ) × Holds toc t b j
+  -- any two that hold it are the same
   pub only : (b i j : ℕ) → Holds toc t b i → Holds toc t b j → i ≡ j
+  -- no section holds a byte before the data start or behind the total
   pub within : (b j : ℕ) → Holds toc t b j → (toc .bookmark ≤ b) × (b < toc .bookmark + toc .«total_byte_size»)
   -- a section of size zero holds none
   pub empty : (b j : ℕ) → getD (t .sizes) j 0 ≡ 0 → Holds toc t b j → ⊥
 
--- the section that is found for a sample and a pass: one of the table, of the sample's kind, that starts at the data start plus the sizes of
--- all sections sent before it. `sent` is the sizes as they were sent.
+-- the section that is found for a sample and a pass starts at the data start plus the sizes of all sections sent before it
 pub record FoundWhereSent (f : Frame) (toc : Toc) (sent : List ℕ) (t : Tables) (x y pass : ℕ) : Type 0 where
+  -- nothing is refused, and the section is one of the table
   pub answered : sectionOfSample f x y pass .refusal ≡ none
   pub section : foundFor f x y pass < toc .count
-  -- it is the only section, All; or that GroupPass, of the pass and of the group whose rectangle holds the sample
+  -- where there is one section alone, its kind is All
   pub all : toc .count ≡ 1 → _≡_ {A = KindAnswer} (kindOf f (sectionOfSample f x y pass .section)) (record { kind = All; refusal = none })
+  -- else its kind is GroupPass, of the pass and of the group whose rectangle holds the sample
   pub group : (toc .count ≡ 1 → ⊥) → (i : ℕ) → In (rectOf (colorWidth f) (colorHeight f) (groupSide f) i) x y
       → _≡_ {A = KindAnswer} (kindOf f (sectionOfSample f x y pass .section)) (record { kind = GroupPass pass i; refusal = none })
-  -- summed in sent order, and summed over the sections
+  -- its offset, by the sizes in sent order: those of the sent numbers below its own
   pub starts : getD (t .offsets) (foundFor f x y pass) 0 ≡ toc .bookmark + sentBefore sent (getD (t .order) (foundFor f x y pass) 0)
+  -- its offset, by the sizes of the sections that are sent before it
   pub starts-by-section : getD (t .offsets) (foundFor f x y pass) 0 ≡ toc .bookmark + sentEarlier toc t (foundFor f x y pass)
 
 -- the four together: of a frame, what was answered, the order that is due, the sizes as they were sent, and four tables
@@ -98,6 +104,7 @@ pub record Demand (f : Frame) (toc : Toc) (order sent : List ℕ) (t : Tables) :
   pub one-byte-one-section : OneByteOneSection toc sent t
   -- each colour sample lies in the clipped rectangle of exactly one group
   pub one-sample-one-rectangle : Exactly (colorWidth f) (colorHeight f) (groupSide f)
+  -- for each colour sample and each pass of the frame
   pub found-where-sent : (x y pass : ℕ) → x < colorWidth f → y < colorHeight f → pass < f .«num_passes» → FoundWhereSent f toc sent t x y pass
 
 -- ---- the tables that it holds of
@@ -125,9 +132,9 @@ written-defined toc q = record {
 }
 
 -- and of the lent tables after a call that answered a table
-pub written-words : (s : List ℕ) (f : Frame) (t : Tables) (toc : Toc) (q : Reading) → Accepted s f t toc q → (r : TocRead) (o z p i : List ℕ) → Done q t r o z p i
+pub written-words : (s : List ℕ) (f : Frame) (t : Tables) (toc : Toc) (q : Reading) → Accepted s f t toc q → (o z p i : List ℕ) → Done q t (Table toc) o z p i
     → Written toc q (tables o z p i)
-written-words s f t toc q a r o z p i d = record {
+written-words s f t toc q a o z p i d = record {
   offsets = λ j l. ap (λ (x : List ℕ). getD x j 0) (d .offsets) ∙ offset-at s f t toc q a j l;
   sizes = λ j l. ap (λ (x : List ℕ). getD x j 0) (d .sizes) ∙ size-at s f t toc q a j l;
   order = λ j l. ap (λ (x : List ℕ). getD x j 0) (d .order) ∙ order-at s f t toc q a j l;
@@ -266,36 +273,38 @@ module _ (s : List ℕ) (f : Frame) (lent : Tables) (toc : Toc) (q : Reading) (a
 due-order : (f : Frame) (toc : Toc) (l m sent : List ℕ) (t : Tables) → l ≡ m → Demand f toc l sent t → Demand f toc m sent t
 due-order f toc l m sent t e d = rw (← e) d
 
--- ---- the theorem
+-- ---- the theorem. Whatever the bytes, the frame, the place and the lent tables: if a table is answered, the four parts hold.
 
--- the first entry: whatever the bytes, the frame, the place and the lent tables, if a table is answered
-module _ (s : List ℕ) (f : Frame) (place : ℕ) (t : Tables) (toc : Toc) (e : firstReading s f place t .answer ≡ Table toc) where
+-- the first entry, where the identity is due
+module _ (s : List ℕ) (f : Frame) (place : ℕ) (t : Tables) (toc : Toc) where
   -- of the tables as they are defined
-  pub first-demand : Demand f toc (identity (toc .count)) (firstReading s f place t .sizes) (defined toc (firstReading s f place t))
-  first-demand =
+  pub first-demand : firstReading s f place t .answer ≡ Table toc
+      → Demand f toc (identity (toc .count)) (firstReading s f place t .sizes) (defined toc (firstReading s f place t))
+  first-demand e =
       let q : Reading = firstReading s f place t in
       let ok = first-accepted s f place t toc e in
       due-order f toc (q .order) _ (q .sizes) _ (ok .1) (demand s f t toc q (ok .0) (defined toc q) (written-defined toc q))
 
-  -- of the lent tables after the call
-  pub first-written : (r : TocRead) (o z p i : List ℕ) → Done (firstReading s f place t) t r o z p i
+  -- of what the call left in the lent tables, by what it promises
+  pub first-written : (o z p i : List ℕ) → Done (firstReading s f place t) t (Table toc) o z p i
       → Demand f toc (identity (toc .count)) (firstReading s f place t .sizes) (tables o z p i)
-  first-written r o z p i d =
+  first-written o z p i d =
       let q : Reading = firstReading s f place t in
-      let ok = first-accepted s f place t toc e in
-      due-order f toc (q .order) _ (q .sizes) _ (ok .1) (demand s f t toc q (ok .0) (tables o z p i) (written-words s f t toc q (ok .0) r o z p i d))
+      let ok = first-accepted s f place t toc (sym (d .answer)) in
+      due-order f toc (q .order) _ (q .sizes) _ (ok .1) (demand s f t toc q (ok .0) (tables o z p i) (written-words s f t toc q (ok .0) o z p i d))
 
--- the second entry: the same, and whatever the lent order
-module _ (s : List ℕ) (f : Frame) (place : ℕ) (order : List ℕ) (t : Tables) (toc : Toc) (e : secondReading s f place order t .answer ≡ Table toc) where
-  pub second-demand : Demand f toc order (secondReading s f place order t .sizes) (defined toc (secondReading s f place order t))
-  second-demand =
+-- the second entry, where the lent order is due
+module _ (s : List ℕ) (f : Frame) (place : ℕ) (order : List ℕ) (t : Tables) (toc : Toc) where
+  pub second-demand : secondReading s f place order t .answer ≡ Table toc
+      → Demand f toc order (secondReading s f place order t .sizes) (defined toc (secondReading s f place order t))
+  second-demand e =
       let q : Reading = secondReading s f place order t in
       let ok = second-accepted s f place order t toc e in
       due-order f toc (q .order) _ (q .sizes) _ (ok .1) (demand s f t toc q (ok .0) (defined toc q) (written-defined toc q))
 
-  pub second-written : (r : TocRead) (o z p i : List ℕ) → Done (secondReading s f place order t) t r o z p i
+  pub second-written : (o z p i : List ℕ) → Done (secondReading s f place order t) t (Table toc) o z p i
       → Demand f toc order (secondReading s f place order t .sizes) (tables o z p i)
-  second-written r o z p i d =
+  second-written o z p i d =
       let q : Reading = secondReading s f place order t in
-      let ok = second-accepted s f place order t toc e in
-      due-order f toc (q .order) _ (q .sizes) _ (ok .1) (demand s f t toc q (ok .0) (tables o z p i) (written-words s f t toc q (ok .0) r o z p i d))
+      let ok = second-accepted s f place order t toc (sym (d .answer)) in
+      due-order f toc (q .order) _ (q .sizes) _ (ok .1) (demand s f t toc q (ok .0) (tables o z p i) (written-words s f t toc q (ok .0) o z p i d))
