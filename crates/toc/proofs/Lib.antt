@@ -8,3 +8,5 @@ pub mod Entering
 pub mod Asking
 pub mod Accepted
 pub mod Found
+pub mod Bytes
+pub mod Demand
