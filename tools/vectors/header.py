@@ -553,7 +553,7 @@ def question(n, flags):
     t, m = min(n, 3), min(n, 4)
     names = [t, int(t in (0, 3)), int(t in (0, 1)), min(n, 1), m, int(m in (2, 3))]
     five = flag_numbers(flags)
-    LINES.append('\t'.join(map(str, names + five + [mixed(five)])))
+    LINES.append('\t'.join(map(str, names + five + [mixed(names + five)])))
 
 
 def some_facts(extra=None):

@@ -72,8 +72,8 @@ fn one(r: &[u8], s: &[u8]) {
     let mut blending = [2779096485u32; 1030];
     read(r, s, &mut name, &mut upsampling, &mut blending);
     print(bytes(&name));
-    print(words(&upsampling));
-    io::print_decimal(1, words(&blending));
+    print(numbers(0, false, &upsampling));
+    io::print_decimal(1, numbers(0, false, &blending));
     io::write_all(1, b"\n");
 }
 
@@ -121,75 +121,85 @@ fn show(a: HeaderAnswer) {
 }
 
 fn kinds(sum: u64, full: bool, h: FrameHeader) -> u64 {
-    let a = number(sum, full, frame_type(h.frame_type));
-    let b = number(a, full, encoding(h.encoding));
-    let c = flags(b, full, h.flags);
-    let d = number(c, full, bit(h.do_ycbcr));
-    let e = number(d, full, h.encoded_color_channels as u64);
+    let kind = h.frame_type;
+    let coded = h.encoding;
+    let bits = h.flags;
     let jpeg = h.jpeg_upsampling;
-    let f = numbers(e, full, &jpeg);
+    let a = number(sum, full, frame_type(kind));
+    let b = number(a, full, encoding(coded));
+    let c = flags(b, full, bits);
+    let two = [bit(h.do_ycbcr), h.encoded_color_channels];
+    let d = numbers(c, full, &two);
+    let e = numbers(d, full, &jpeg);
     let last = [h.upsampling, h.group_size_shift, h.x_qm_scale, h.b_qm_scale];
-    numbers(f, full, &last)
+    numbers(e, full, &last)
 }
 
 fn flags(sum: u64, full: bool, f: FrameFlags) -> u64 {
-    let a = number(sum, full, f.0);
-    let b = number(a, full, bit(f.noise()));
-    let c = number(b, full, bit(f.patches()));
-    let d = number(c, full, bit(f.splines()));
-    let e = number(d, full, bit(f.use_lf_frame()));
-    number(e, full, bit(f.skip_adaptive_lf_smoothing()))
+    let a = long(sum, full, f.0);
+    let five = [
+        bit(f.noise()),
+        bit(f.patches()),
+        bit(f.splines()),
+        bit(f.use_lf_frame()),
+        bit(f.skip_adaptive_lf_smoothing()),
+    ];
+    numbers(a, full, &five)
 }
 
 fn passes(sum: u64, full: bool, p: Passes) -> u64 {
     let shift = p.shift;
     let downsample = p.downsample;
     let last_pass = p.last_pass;
-    let a = number(sum, full, p.num_passes as u64);
-    let b = number(a, full, p.num_ds as u64);
-    let c = numbers(b, full, &shift);
-    let d = numbers(c, full, &downsample);
-    numbers(d, full, &last_pass)
+    let two = [p.num_passes, p.num_ds];
+    let a = numbers(sum, full, &two);
+    let b = numbers(a, full, &shift);
+    let c = numbers(b, full, &downsample);
+    numbers(c, full, &last_pass)
 }
 
 fn crop(sum: u64, full: bool, h: FrameHeader) -> u64 {
-    let a = number(sum, full, h.lf_level as u64);
-    let b = number(a, full, bit(h.have_crop));
-    let c = signed(b, full, h.x0);
-    let d = signed(c, full, h.y0);
-    let e = number(d, full, h.width as u64);
-    number(e, full, h.height as u64)
+    let two = [h.lf_level, bit(h.have_crop)];
+    let a = numbers(sum, full, &two);
+    let b = signed(a, full, h.x0);
+    let c = signed(b, full, h.y0);
+    let size = [h.width, h.height];
+    numbers(c, full, &size)
 }
 
 // 0 and the number, or 1 and k for -1 - k.
 fn signed(sum: u64, full: bool, z: i32) -> u64 {
     if z < 0 {
-        return number(number(sum, full, 1), full, (-1 - z) as u64);
+        return long(number(sum, full, 1), full, (-1 - z) as u64);
     }
-    number(number(sum, full, 0), full, z as u64)
+    long(number(sum, full, 0), full, z as u64)
 }
 
 fn blend(sum: u64, full: bool, i: BlendingInfo) -> u64 {
     let mode = i.mode;
-    let a = number(sum, full, blend_mode(mode));
-    let b = number(a, full, i.alpha_channel as u64);
-    let c = number(b, full, bit(i.clamp));
-    number(c, full, i.source as u64)
+    let four = [blend_mode(mode), i.alpha_channel, bit(i.clamp), i.source];
+    numbers(sum, full, &four)
 }
 
 // The closing fields, and what is asked of a header.
 fn closing(sum: u64, full: bool, h: FrameHeader) -> u64 {
-    let a = number(sum, full, h.duration as u64);
-    let b = number(a, full, h.timecode as u64);
-    let c = number(b, full, bit(h.is_last));
-    let d = number(c, full, h.save_as_reference as u64);
-    let e = number(d, full, bit(h.resets_canvas));
-    let f = number(e, full, bit(h.save_before_ct));
-    let g = number(f, full, h.name_length as u64);
-    let i = number(g, full, bit(h.is_keyframe()));
-    let j = number(i, full, bit(h.can_reference()));
-    let k = number(j, full, h.encoded_color_channels() as u64);
-    number(k, full, bit(h.resets_canvas()))
+    let fields = [
+        h.duration,
+        h.timecode,
+        bit(h.is_last),
+        h.save_as_reference,
+        bit(h.resets_canvas),
+        bit(h.save_before_ct),
+        h.name_length,
+    ];
+    let a = numbers(sum, full, &fields);
+    let answers = [
+        bit(h.is_keyframe()),
+        bit(h.can_reference()),
+        h.encoded_color_channels(),
+        bit(h.resets_canvas()),
+    ];
+    numbers(a, full, &answers)
 }
 
 fn frame(sum: u64, full: bool, h: FrameHeader) -> u64 {
@@ -212,30 +222,32 @@ fn filters(sum: u64, full: bool, gab: filter::Gabor, epf: filter::EdgePreserving
         sigma.border_sad_mul,
         p.sigma_for_modular,
     ];
-    let a = number(sum, full, bit(gab.enabled));
-    let b = number(a, full, bit(epf.enabled));
-    let c = number(b, full, p.iters as u64);
+    let three = [bit(gab.enabled), bit(epf.enabled), p.iters];
+    let c = numbers(sum, full, &three);
     floats(floats(floats(floats(c, &weights), &lut), &scale), &last)
 }
 
 fn questions(r: &[u8]) {
     let n = replay::word(r, 4);
     let t = header::frame_type_of(n);
+    let e = header::encoding_of(n);
     let m = header::blend_mode_of(n);
-    print(frame_type(t));
-    print(bit(t.is_normal_frame()));
-    print(bit(t.is_progressive_frame()));
-    print(encoding(header::encoding_of(n)));
-    print(blend_mode(m));
-    print(bit(m.use_alpha()));
+    let six = [
+        frame_type(t),
+        bit(t.is_normal_frame()),
+        bit(t.is_progressive_frame()),
+        encoding(e),
+        blend_mode(m),
+        bit(m.use_alpha()),
+    ];
+    let sum = numbers(0, true, &six);
     let low = replay::word(r, 8);
     let high = replay::word(r, 12);
-    let sum = flags(0, true, FrameFlags((low as u64) + (high as u64) * 4294967296));
-    io::print_decimal(1, sum);
+    io::print_decimal(1, flags(sum, true, FrameFlags((low as u64) + (high as u64) * 4294967296)));
     io::write_all(1, b"\n");
 }
 
-fn frame_type(t: FrameType) -> u64 {
+fn frame_type(t: FrameType) -> u32 {
     match t {
         FrameType::RegularFrame => 0,
         FrameType::LfFrame => 1,
@@ -244,14 +256,14 @@ fn frame_type(t: FrameType) -> u64 {
     }
 }
 
-fn encoding(e: Encoding) -> u64 {
+fn encoding(e: Encoding) -> u32 {
     match e {
         Encoding::VarDct => 0,
         Encoding::Modular => 1,
     }
 }
 
-fn blend_mode(m: BlendMode) -> u64 {
+fn blend_mode(m: BlendMode) -> u32 {
     match m {
         BlendMode::Replace => 0,
         BlendMode::Add => 1,
@@ -261,7 +273,7 @@ fn blend_mode(m: BlendMode) -> u64 {
     }
 }
 
-fn bit(b: bool) -> u64 {
+fn bit(b: bool) -> u32 {
     if b { 1 } else { 0 }
 }
 
@@ -270,7 +282,7 @@ fn floats(sum: u64, xs: &[f32]) -> u64 {
     let mut all = sum;
     let mut i: usize = 0;
     while i < xs.len() {
-        all = mixed(all, pattern(xs[i]) as u64);
+        all = number(all, false, pattern(xs[i]));
         i += 1;
     }
     all
@@ -284,18 +296,7 @@ fn numbers(sum: u64, full: bool, xs: &[u32]) -> u64 {
     let mut all = sum;
     let mut i: usize = 0;
     while i < xs.len() {
-        all = number(all, full, xs[i] as u64);
-        i += 1;
-    }
-    all
-}
-
-// All of a lent buffer in one number.
-fn words(xs: &[u32]) -> u64 {
-    let mut all: u64 = 0;
-    let mut i: usize = 0;
-    while i < xs.len() {
-        all = mixed(all, xs[i] as u64);
+        all = number(all, full, xs[i]);
         i += 1;
     }
     all
@@ -305,21 +306,25 @@ fn bytes(xs: &[u8]) -> u64 {
     let mut all: u64 = 0;
     let mut i: usize = 0;
     while i < xs.len() {
-        all = mixed(all, xs[i] as u64);
+        all = number(all, false, wide(xs[i]));
         i += 1;
     }
     all
 }
 
+fn wide(x: u8) -> u32 {
+    x as u32
+}
+
+fn number(sum: u64, full: bool, n: u32) -> u64 {
+    long(sum, full, n as u64)
+}
+
 // One more number into the sum, and printed where all are.
-fn number(sum: u64, full: bool, n: u64) -> u64 {
+fn long(sum: u64, full: bool, n: u64) -> u64 {
     if full {
         print(n);
     }
-    mixed(sum, n)
-}
-
-fn mixed(sum: u64, n: u64) -> u64 {
     (sum % 4294967291) * 1000003 + n % 4294967291
 }
 
