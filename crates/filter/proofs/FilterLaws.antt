@@ -13,6 +13,7 @@ use Rattle.bits.specs.Table.{Out, read, failed, bind, within, times}
 use Rattle.bits.specs.Extensions.{extensions}
 use Rattle.bits.proofs.Tables.{field-off, lengths-none}
 use Rattle.filter.proofs.Steps.{Reads, row-then, bind-then, within-then, at-end}
+use Rattle.filter.specs.declared.gabor.Gabor.{Gabor}
 use Rattle.filter.specs.declared.gabor.GaborRead.{GaborRead}
 use Rattle.filter.specs.declared.epf.EdgePreservingFilter.{EdgePreservingFilter}
 use Rattle.filter.specs.declared.epf.EpfRead.{EpfRead}
@@ -20,9 +21,9 @@ use Rattle.filter.specs.declared.RestorationFilter.{RestorationFilter}
 use Rattle.filter.specs.declared.FilterRead.{FilterRead}
 use Rattle.filter.specs.Values.{decimal, float, floats}
 use Rattle.filter.specs.Weights.{unbalanced}
-use Rattle.filter.specs.Gabor.{gaborDefault, gaborOf, channel, gabor, gaborRead}
-use Rattle.filter.specs.Epf.{sharpDefault, scaleDefault, sigmaDefault, sharp, scale, sigma, epf, epfRead}
-use Rattle.filter.specs.Filter.{restoration, filterRead}
+use Rattle.filter.specs.Gabor.{gaborDefault, gaborDisabled, gaborOf, channel, gabor, gaborRead}
+use Rattle.filter.specs.Epf.{sharpDefault, scaleDefault, sigmaDefault, epfDisabled, sharp, scale, sigma, epf, epfRead}
+use Rattle.filter.specs.Filter.{restoration, filterDisabled, filterRead}
 
 gabor-out : (on : Bool) (s : List ℕ) (c : Cursor) (x : GaborRead) → x ≡ gaborRead (read (gabor on) s c) → Reads (gabor on) s c (record { value = x .value; next = x .next })
 gabor-out on s c x e = record { is = rw e }
@@ -101,3 +102,7 @@ filter-default s on modular c h =
     (within-then _ _ _ _ _ (epf-off modular s (all .next))
     (within-then _ _ _ _ _ (extensions-off s (all .next)) at-end)))) in
     whole .is
+
+pub both-disabled : (g : Gabor) (e : EdgePreservingFilter) → g ≡ gaborDisabled → e ≡ epfDisabled → _≡_ {A = RestorationFilter} (record { gab = g; epf = e }) filterDisabled
+unfolding filterDisabled
+both-disabled g e p q = rw (p, q)

@@ -105,7 +105,7 @@ pub closing-law : (s : List ℕ) (c : Cursor) (f : Facts) (o : Opening) (resets 
     → reference ≡ field s (eqb (o .«all_default») 0 && (not (eqb (o .«frame_type») 1) && eqb (last .value) 0)) (u 2) 0 (last .next)
     → e ≡ pick (eqb (o .«frame_type») 0 || eqb (o .«frame_type») 3) 0 1
     → ct ≡ field s (eqb (o .«all_default») 0 && (eqb (o .«frame_type») 2
-        || (resets && ((not (eqb (o .«frame_type») 1) && eqb (last .value) 0) && (eqb (duration .value) 0 || not (eqb (reference .value) 0)))))) bool e (reference .next)
+    || (resets && ((not (eqb (o .«frame_type») 1) && eqb (last .value) 0) && (eqb (duration .value) 0 || not (eqb (reference .value) 0)))))) bool e (reference .next)
     → name ≡ field s (eqb (o .«all_default») 0) (u32 nameLengths) 0 (ct .next)
     → _≡_ {A = Out Closing} (record {
       value = record {
@@ -134,10 +134,10 @@ colL r i = getD (r .«last_pass») i 0
 passesFrom : List ℕ → Bool → Field → Field → Out Passes
 passesFrom s on n ds =
     read (
-      bind (array (u 2) (n .value - 1) 10 0 colS) λ shift.
-      bind (array (u32 upsamplings) (ds .value) 4 0 colD) λ downsample.
-      bind (array (u32 lastPasses) (ds .value) 4 0 colL) λ last.
-      ends (record { «num_passes» = n .value; «num_ds» = ds .value; shift = shift; downsample = downsample; «last_pass» = last })
+    bind (array (u 2) (n .value - 1) 10 0 colS) λ shift.
+    bind (array (u32 upsamplings) (ds .value) 4 0 colD) λ downsample.
+    bind (array (u32 lastPasses) (ds .value) 4 0 colL) λ last.
+    ends (record { «num_passes» = n .value; «num_ds» = ds .value; shift = shift; downsample = downsample; «last_pass» = last })
     ) s (ds .next)
 
 pub passes-law : (s : List ℕ) (c : Cursor) (on : Bool) (n ds : Field) (k : ℕ) (a b e : Cursor) (zs zd zl shift downsample last : List ℕ)
@@ -155,10 +155,10 @@ pub passes-law : (s : List ℕ) (c : Cursor) (on : Bool) (n ds : Field) (k : ℕ
 unfolding passes read passesFrom colS colD colL
 passes-law s c on n ds k a b e zs zd zl shift downsample last p1 p2 pk hs hd hl ws wd wl =
     sym (
-      ap (λ (f : Field). passesFrom s on f (field s (not (eqb (f .value) 1)) (u32 downsamples) 0 (f .next))) (sym p1)
-      ∙ ap (λ (f : Field). passesFrom s on n f) (sym p2)
-      ∙ read-then (array (u 2) (n .value - 1) 10 0 colS) _ s (ds .next) (record { value = shift; next = a })
-      (array-out (u 2) (n .value - 1) 10 0 colS s (ds .next) a zs shift (rw pk at ws) hs)
-      ∙ read-then (array (u32 upsamplings) (ds .value) 4 0 colD) _ s a (record { value = downsample; next = b }) (array-out (u32 upsamplings) (ds .value) 4 0 colD s a b zd downsample wd hd)
-      ∙ read-then (array (u32 lastPasses) (ds .value) 4 0 colL) _ s b (record { value = last; next = e }) (array-out (u32 lastPasses) (ds .value) 4 0 colL s b e zl last wl hl)
+    ap (λ (f : Field). passesFrom s on f (field s (not (eqb (f .value) 1)) (u32 downsamples) 0 (f .next))) (sym p1)
+    ∙ ap (λ (f : Field). passesFrom s on n f) (sym p2)
+    ∙ read-then (array (u 2) (n .value - 1) 10 0 colS) _ s (ds .next) (record { value = shift; next = a })
+    (array-out (u 2) (n .value - 1) 10 0 colS s (ds .next) a zs shift (rw pk at ws) hs)
+    ∙ read-then (array (u32 upsamplings) (ds .value) 4 0 colD) _ s a (record { value = downsample; next = b }) (array-out (u32 upsamplings) (ds .value) 4 0 colD s a b zd downsample wd hd)
+    ∙ read-then (array (u32 lastPasses) (ds .value) 4 0 colL) _ s b (record { value = last; next = e }) (array-out (u32 lastPasses) (ds .value) 4 0 colL s b e zl last wl hl)
     )

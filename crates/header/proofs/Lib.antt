@@ -2,3 +2,4 @@ pub mod Walks
 pub mod Bundles
 pub mod Canvas
 pub mod Whole
+pub mod Entering

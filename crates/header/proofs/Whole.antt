@@ -73,14 +73,14 @@ unfolding front read
 front-law s f b a y w w' q p c pb pa pu pq pp pc =
     let ups = read (array (u32 upsamplings) (sentUpsampling f (a .value)) (f .extra) 1 (λ (x : List ℕ) (i : ℕ). 0)) s (a .next) .value in
     let is : read (front f) s (start 0)
-        ≡ record { value = record { front = record { opening = a .value; quant = q .value; passes = p .value; crop = c .value }; upsampling = ups }; next = c .next } =
-        then-within (λ h. h .front .opening) (opening f) _ s (start 0) (record { value = a .value; next = a .next }) (ap (λ (r : OpeningRead). record { value = r .value; next = r .next }) (rw pb at pa))
-        ∙ read-then (array (u32 upsamplings) (sentUpsampling f (a .value)) (f .extra) 1 (λ h i. getD (h .upsampling) i 1)) _ s (a .next) (record { value = ups; next = y })
-        (array-passed (u32 upsamplings) (sentUpsampling f (a .value)) (f .extra) 1 (λ (h : Header) (i : ℕ). getD (h .upsampling) i 1) s (a .next) y w w' pu)
-        ∙ then-within (λ h. h .front .quant) (quant f (a .value)) _ s y (record { value = q .value; next = q .next }) (ap (λ (r : QuantRead). record { value = r .value; next = r .next }) pq)
-        ∙ then-within (λ h. h .front .passes) (passes (eqb (a .value .«all_default») 0 && not (eqb (a .value .«frame_type») 2))) _ s (q .next) (record { value = p .value; next = p .next })
-        (ap (λ (r : PassesRead). record { value = r .value; next = r .next }) pp)
-        ∙ then-within (λ h. h .front .crop) (crop f (a .value)) _ s (p .next) (record { value = c .value; next = c .next }) (ap (λ (r : CropRead). record { value = r .value; next = r .next }) pc) in
+    ≡ record { value = record { front = record { opening = a .value; quant = q .value; passes = p .value; crop = c .value }; upsampling = ups }; next = c .next } =
+    then-within (λ h. h .front .opening) (opening f) _ s (start 0) (record { value = a .value; next = a .next }) (ap (λ (r : OpeningRead). record { value = r .value; next = r .next }) (rw pb at pa))
+    ∙ read-then (array (u32 upsamplings) (sentUpsampling f (a .value)) (f .extra) 1 (λ h i. getD (h .upsampling) i 1)) _ s (a .next) (record { value = ups; next = y })
+    (array-passed (u32 upsamplings) (sentUpsampling f (a .value)) (f .extra) 1 (λ (h : Header) (i : ℕ). getD (h .upsampling) i 1) s (a .next) y w w' pu)
+    ∙ then-within (λ h. h .front .quant) (quant f (a .value)) _ s y (record { value = q .value; next = q .next }) (ap (λ (r : QuantRead). record { value = r .value; next = r .next }) pq)
+    ∙ then-within (λ h. h .front .passes) (passes (eqb (a .value .«all_default») 0 && not (eqb (a .value .«frame_type») 2))) _ s (q .next) (record { value = p .value; next = p .next })
+    (ap (λ (r : PassesRead). record { value = r .value; next = r .next }) pp)
+    ∙ then-within (λ h. h .front .crop) (crop f (a .value)) _ s (p .next) (record { value = c .value; next = c .next }) (ap (λ (r : CropRead). record { value = r .value; next = r .next }) pc) in
     record { value = ap (λ (o : Out Begun). o .value .front) is; upsampling = ap (λ (o : Out Begun). o .value .upsampling) is; next = ap (λ (o : Out Begun). o .next) is }
 
 pub back-law : (s : List ℕ) (c : Cursor) (f : Facts) (o : Opening) (p : Crop) (b : BlendingRead) (x : Cursor) (w w' : List ℕ) (e : ClosingRead) (n : Cursor) (v v' : List ℕ) (r : FilterRead) (z : Cursor)
@@ -106,15 +106,15 @@ back-law s c f o p b x w w' e n v v' r z pb px pe pn pr pz =
     let name = read (array (u 8) k k 0 (λ (x : List ℕ) (i : ℕ). 0)) s (e .next) .value in
     let ex = read (extensions on) s (r .next) in
     let is : read (back f o p) s c ≡ record { value = record { back = record { blending = b .value; closing = e .value; filter = r .value }; blending = channels; name = name }; next = z } =
-        then-within (λ h. h .back .blending) (blending (shown o) (not (eqb (f .extra) 0)) full byOwn) _ s c (record { value = b .value; next = b .next })
-        (ap (λ (y : BlendingRead). record { value = y .value; next = y .next }) pb)
-        ∙ read-then (times (f .extra) 0 λ i. within (λ (h : Header). getD (h .blending) i _) (blending (shown o) true full (byColour m))) _ s (b .next) (record { value = channels; next = x })
-        (rw (px .next) (sym (channels-any (λ i (h : Header). getD (h .blending) i _) (blending (shown o) true full (byColour m)) (f .extra) 0 s (b .next))))
-        ∙ then-within (λ h. h .back .closing) (closing f o (resets m full)) _ s x (record { value = e .value; next = e .next }) (ap (λ (y : ClosingRead). record { value = y .value; next = y .next }) pe)
-        ∙ read-then (array (u 8) k k 0 (λ h i. getD (h .name) i 0)) _ s (e .next) (record { value = name; next = n })
-        (array-passed (u 8) k k 0 (λ (h : Header) (i : ℕ). getD (h .name) i 0) s (e .next) n v v' pn)
-        ∙ then-within (λ h. h .back .filter) (restoration on (eqb (o .encoding) 1)) _ s n (record { value = r .value; next = r .next }) (ap (λ (y : FilterRead). record { value = y .value; next = y .next }) pr)
-        ∙ then-within (λ h. tt) (extensions on) _ s (r .next) (record { value = ex .value; next = z }) (rw pz) in
+    then-within (λ h. h .back .blending) (blending (shown o) (not (eqb (f .extra) 0)) full byOwn) _ s c (record { value = b .value; next = b .next })
+    (ap (λ (y : BlendingRead). record { value = y .value; next = y .next }) pb)
+    ∙ read-then (times (f .extra) 0 λ i. within (λ (h : Header). getD (h .blending) i _) (blending (shown o) true full (byColour m))) _ s (b .next) (record { value = channels; next = x })
+    (rw (px .next) (sym (channels-any (λ i (h : Header). getD (h .blending) i _) (blending (shown o) true full (byColour m)) (f .extra) 0 s (b .next))))
+    ∙ then-within (λ h. h .back .closing) (closing f o (resets m full)) _ s x (record { value = e .value; next = e .next }) (ap (λ (y : ClosingRead). record { value = y .value; next = y .next }) pe)
+    ∙ read-then (array (u 8) k k 0 (λ h i. getD (h .name) i 0)) _ s (e .next) (record { value = name; next = n })
+    (array-passed (u 8) k k 0 (λ (h : Header) (i : ℕ). getD (h .name) i 0) s (e .next) n v v' pn)
+    ∙ then-within (λ h. h .back .filter) (restoration on (eqb (o .encoding) 1)) _ s n (record { value = r .value; next = r .next }) (ap (λ (y : FilterRead). record { value = y .value; next = y .next }) pr)
+    ∙ then-within (λ h. tt) (extensions on) _ s (r .next) (record { value = ex .value; next = z }) (rw pz) in
     record {
       value = ap (λ (y : Out Ended). y .value .back) is;
       blending = ap (λ (y : Out Ended). y .value .blending) is;

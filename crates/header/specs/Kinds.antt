@@ -45,6 +45,12 @@ isNormal LfFrame = false
 isNormal ReferenceOnly = false
 isNormal SkipProgressive = true
 
+abbrev pub isLf : FrameType → Bool
+isLf RegularFrame = false
+isLf LfFrame = true
+isLf ReferenceOnly = false
+isLf SkipProgressive = false
+
 abbrev pub isProgressive : FrameType → Bool
 isProgressive RegularFrame = true
 isProgressive LfFrame = true

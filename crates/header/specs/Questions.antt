@@ -19,7 +19,7 @@ use Rattle.header.specs.declared.parts.Back.{Back}
 use Rattle.header.specs.declared.kinds.FrameType.the-variants.{RegularFrame}
 use Rattle.header.specs.declared.kinds.Encoding.the-variants.{VarDct}
 use Rattle.header.specs.declared.kinds.BlendMode.the-variants.{Replace}
-use Rattle.header.specs.Kinds.{frameType, frameTypeNumber, encoding, blendMode, isNormal}
+use Rattle.header.specs.Kinds.{frameType, encoding, blendMode, isNormal, isLf}
 use Rattle.header.specs.Blending.{coversImage, resets}
 
 -- 1 for a grey Modular frame that is neither YCbCr nor XYB, else 3
@@ -95,7 +95,7 @@ abbrev pub isKeyframe : FrameHeader → Bool
 isKeyframe h = isNormal (h .«frame_type») && (h .«is_last» || not (eqb (h .duration) 0))
 
 abbrev pub canReference : FrameHeader → Bool
-canReference h = (not (h .«is_last») && (eqb (h .duration) 0 || not (eqb (h .«save_as_reference») 0))) && not (eqb (frameTypeNumber (h .«frame_type»)) 1)
+canReference h = (not (h .«is_last») && (eqb (h .duration) 0 || not (eqb (h .«save_as_reference») 0))) && not (isLf (h .«frame_type»))
 
 abbrev pub frameOf : FrameHeader → Frame
 frameOf h = record {

@@ -5,7 +5,6 @@ use bits::Cursor;
 use bits::read_bits;
 use bits::read_bits_if;
 use bits::read_u32_if;
-
 ghost use mathlib.Core.Path.{_≡_};
 ghost use Prim.Native.Nat.{_<_};
 ghost use lib.ListN.{set};
@@ -30,7 +29,15 @@ fn put_byte(out: &mut [u8], k: usize, v: u8)
 }
 
 // count numbers of n bits each, of which the first limit stand there.
-pub fn read_bits_array(s: &[u8], c: Cursor, limit: u32, count: u32, n: u32, default: u32, out: &mut [u32]) -> Cursor
+pub fn read_bits_array(
+    s: &[u8],
+    c: Cursor,
+    limit: u32,
+    count: u32,
+    n: u32,
+    default: u32,
+    out: &mut [u32],
+) -> Cursor
     ensures { λ r. ⌜ Arrayed (u n) limit count default (now (s .entry)) c r (now (out .entry)) (now (out .exit)) ⌝ }
 {
     let mut at = c;
@@ -46,7 +53,15 @@ pub fn read_bits_array(s: &[u8], c: Cursor, limit: u32, count: u32, n: u32, defa
 }
 
 // count U32s, of which the first limit stand there.
-pub fn read_u32_array(s: &[u8], c: Cursor, limit: u32, count: u32, d: Choices, default: u32, out: &mut [u32]) -> Cursor
+pub fn read_u32_array(
+    s: &[u8],
+    c: Cursor,
+    limit: u32,
+    count: u32,
+    d: Choices,
+    default: u32,
+    out: &mut [u32],
+) -> Cursor
     ensures { λ r. ⌜ Arrayed (u32 d) limit count default (now (s .entry)) c r (now (out .entry)) (now (out .exit)) ⌝ }
 {
     let mut at = c;

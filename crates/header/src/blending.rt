@@ -12,7 +12,6 @@ use bits::read_bits_if;
 use bits::read_bool_if;
 use bits::read_enum_if;
 use bits::read_u32_if;
-
 ghost use mathlib.Core.Path.{_≡_};
 ghost use Prim.Native.Nat.{_*_, _≤_, _+_, _<_};
 ghost use Rattle.bits.specs.Table.{read};
@@ -91,11 +90,22 @@ pub fn covers_image(f: Facts, c: Crop) -> bool
 fn has_source(d: Decider, own: u32, full: bool) -> bool
     ensures { λ r. ⌜ r ≡ hasSource d own full ⌝ }
 {
-    if d.own { !both(own == 0, full) } else { !both(d.mode == 0, full) }
+    if d.own {
+        !both(own == 0, full)
+    } else {
+        !both(d.mode == 0, full)
+    }
 }
 
 // The bundle, where it is asked for; extra says whether there are extra channels.
-pub fn read_blending_if(s: &[u8], c: Cursor, on: bool, extra: bool, full: bool, d: Decider) -> BlendingRead
+pub fn read_blending_if(
+    s: &[u8],
+    c: Cursor,
+    on: bool,
+    extra: bool,
+    full: bool,
+    d: Decider,
+) -> BlendingRead
     ensures { λ r. ⌜ r ≡ blendingRead (read (blending on extra full d) (now (s .entry)) c) ⌝ }
 {
     let m = read_enum_if(s, c, on, mode_choices(), 5, 0);
@@ -117,7 +127,15 @@ pub fn read_blending_if(s: &[u8], c: Cursor, on: bool, extra: bool, full: bool, 
 }
 
 // The bundles of n extra channels, four words each.
-pub fn read_extra_blending(s: &[u8], c: Cursor, on: bool, n: u32, full: bool, d: Decider, out: &mut [u32]) -> Cursor
+pub fn read_extra_blending(
+    s: &[u8],
+    c: Cursor,
+    on: bool,
+    n: u32,
+    full: bool,
+    d: Decider,
+    out: &mut [u32],
+) -> Cursor
     ensures { λ r. ⌜ Extras on n full d (now (s .entry)) c r (now (out .entry)) (now (out .exit)) ⌝ }
 {
     let mut at = c;

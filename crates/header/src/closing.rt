@@ -10,7 +10,6 @@ use bits::either;
 use bits::read_bits_if;
 use bits::read_bool_if;
 use bits::read_u32_if;
-
 ghost use mathlib.Core.Path.{_≡_};
 ghost use Rattle.bits.specs.Table.{read};
 ghost use Rattle.header.specs.Closing.{durations, nameLengths, closing, closingRead};
@@ -49,10 +48,7 @@ fn name_choices() -> Choices
         d0: Choice { base: 0, bits: 0 },
         d1: Choice { base: 0, bits: 4 },
         d2: Choice { base: 16, bits: 5 },
-        d3: Choice {
-            base: 48,
-            bits: 10,
-        },
+        d3: Choice { base: 48, bits: 10 },
     }
 }
 
@@ -71,7 +67,12 @@ pub fn read_closing(s: &[u8], c: Cursor, f: Facts, o: Opening, resets: bool) -> 
     let reference = read_bits_if(s, last.next, both(on, kept), 2, 0);
     let referable = both(kept, either(duration.value == 0, reference.value != 0));
     let before = either(kind == 2, both(resets, referable));
-    let ct = read_bool_if(s, reference.next, both(on, before), either_number(normal, 0, 1));
+    let ct = read_bool_if(
+        s,
+        reference.next,
+        both(on, before),
+        either_number(normal, 0, 1),
+    );
     let name = read_u32_if(s, ct.next, on, name_choices(), 0);
     let next = name.next;
     ClosingRead {

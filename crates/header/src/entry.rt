@@ -32,7 +32,6 @@ use bits::refused;
 use bits::unpack_signed;
 use filter::RestorationFilter;
 use filter::disabled_filter;
-
 ghost use mathlib.Core.Path.{_≡_};
 ghost use lib.ListN.{length};
 ghost use Rattle.header.specs.Questions.{colorChannels, blendingInfo, frameHeader, zeroHeader};
@@ -200,16 +199,21 @@ fn judge(n: usize, f: Facts, name: usize, upsampling: usize, blending: usize) ->
         return refused(1, 0);
     }
     let extra = f.extra as usize;
-    let short = bits::either(name < 1071, bits::either(upsampling < extra, blending < 4 * extra));
-    if short {
-        refused(3, 0)
-    } else {
-        accepted()
-    }
+    let short = bits::either(
+        name < 1071,
+        bits::either(upsampling < extra, blending < 4 * extra),
+    );
+    if short { refused(3, 0) } else { accepted() }
 }
 
 // The entry: 2, 1, 3, then the first fault in reading order. The lent buffers are written once all is known to be good.
-pub fn read_frame_header(s: &[u8], f: Facts, name: &mut [u8], upsampling: &mut [u32], blending: &mut [u32]) -> HeaderAnswer
+pub fn read_frame_header(
+    s: &[u8],
+    f: Facts,
+    name: &mut [u8],
+    upsampling: &mut [u32],
+    blending: &mut [u32],
+) -> HeaderAnswer
     ensures { λ r. ⌜ Headed f (now (s .entry)) r (now (name .entry)) (now (name .exit)) (now (upsampling .entry)) (now (upsampling .exit)) (now (blending .entry)) (now (blending .exit)) ⌝ }
 {
     let before = judge(s.len(), f, name.len(), upsampling.len(), blending.len());
@@ -229,8 +233,27 @@ pub fn read_frame_header(s: &[u8], f: Facts, name: &mut [u8], upsampling: &mut [
     }
     let closing = back.closing;
     let colour = back.blending;
-    read_u32_array(s, a.upsampling_at, sent_upsampling(f, o), f.extra, upsampling_choices(), 1, upsampling);
-    read_extra_blending(s, b.blending_at, is_shown(o), f.extra, covers_image(f, crop), Decider { own: false, mode: colour.mode }, blending);
+    read_u32_array(
+        s,
+        a.upsampling_at,
+        sent_upsampling(f, o),
+        f.extra,
+        upsampling_choices(),
+        1,
+        upsampling,
+    );
+    read_extra_blending(
+        s,
+        b.blending_at,
+        is_shown(o),
+        f.extra,
+        covers_image(f, crop),
+        Decider {
+            own: false,
+            mode: colour.mode,
+        },
+        blending,
+    );
     read_bytes(s, b.name_at, closing.name_length, name);
     let header = assemble(f, front, back);
     HeaderAnswer {

@@ -1,7 +1,6 @@
 // The enums of a frame header and their questions. A question refuses nothing.
 ghost use mathlib.Core.Path.{_≡_};
-ghost use lib.Dec.{eqb};
-ghost use Rattle.header.specs.Kinds.{frameType, frameTypeNumber, encoding, blendMode, isNormal, isProgressive, usesAlpha, flagged};
+ghost use Rattle.header.specs.Kinds.{frameType, encoding, blendMode, isNormal, isLf, isProgressive, usesAlpha, flagged};
 
 pub enum FrameType {
     RegularFrame,
@@ -73,18 +72,6 @@ pub fn blend_mode_of(n: u32) -> BlendMode
     }
 }
 
-// Whether a frame type has a number.
-pub fn is_kind(t: FrameType, n: u32) -> bool
-    ensures { λ r. ⌜ r ≡ eqb (frameTypeNumber t) n ⌝ }
-{
-    match t {
-        FrameType::RegularFrame => n == 0,
-        FrameType::LfFrame => n == 1,
-        FrameType::ReferenceOnly => n == 2,
-        FrameType::SkipProgressive => n == 3,
-    }
-}
-
 impl FrameType {
     pub fn is_normal_frame(self) -> bool
         ensures { λ r. ⌜ r ≡ isNormal self ⌝ }
@@ -94,6 +81,17 @@ impl FrameType {
             FrameType::LfFrame => false,
             FrameType::ReferenceOnly => false,
             FrameType::SkipProgressive => true,
+        }
+    }
+
+    pub fn is_lf_frame(self) -> bool
+        ensures { λ r. ⌜ r ≡ isLf self ⌝ }
+    {
+        match self {
+            FrameType::RegularFrame => false,
+            FrameType::LfFrame => true,
+            FrameType::ReferenceOnly => false,
+            FrameType::SkipProgressive => false,
         }
     }
 

@@ -11,6 +11,8 @@ mod shape;
 pub use blending::BlendingInfo;
 pub use entry::HeaderAnswer;
 pub use entry::read_frame_header;
+use filter::RestorationFilter;
+use grid::Frame;
 pub use kinds::BlendMode;
 pub use kinds::Encoding;
 pub use kinds::FrameFlags;
@@ -19,11 +21,6 @@ pub use kinds::blend_mode_of;
 pub use kinds::encoding_of;
 pub use kinds::frame_type_of;
 pub use shape::Passes;
-
-use filter::RestorationFilter;
-use grid::Frame;
-use kinds::is_kind;
-
 ghost use mathlib.Core.Path.{_≡_};
 ghost use Rattle.header.specs.Questions.{isKeyframe, canReference, frameOf};
 
@@ -84,7 +81,7 @@ impl FrameHeader {
         ensures { λ r. ⌜ r ≡ canReference self ⌝ }
     {
         let kind = self.frame_type;
-        let lf = is_kind(kind, 1);
+        let lf = kind.is_lf_frame();
         let kept = bits::either(self.duration == 0, self.save_as_reference != 0);
         bits::both(bits::both(!self.is_last, kept), !lf)
     }

@@ -9,7 +9,6 @@ use bits::read_bits_if;
 use bits::read_bool_if;
 use bits::read_u32_if;
 use bits::read_u64_if;
-
 ghost use mathlib.Core.Path.{_≡_};
 ghost use Rattle.bits.specs.Table.{read};
 ghost use Rattle.header.specs.Opening.{opening, openingRead, upsamplings};

@@ -27,7 +27,6 @@ use bits::either;
 use bits::read_extensions_if;
 use filter::RestorationFilter;
 use filter::read_restoration_filter_if;
-
 ghost use mathlib.Core.Path.{_≡_};
 ghost use Rattle.header.specs.Header.{sentUpsampling, shown, Fronted, Backed};
 
@@ -71,7 +70,10 @@ pub fn sent_upsampling(f: Facts, o: Opening) -> u32
 pub fn is_shown(o: Opening) -> bool
     ensures { λ r. ⌜ r ≡ shown o ⌝ }
 {
-    both(o.all_default == 0, either(o.frame_type == 0, o.frame_type == 3))
+    both(
+        o.all_default == 0,
+        either(o.frame_type == 0, o.frame_type == 3),
+    )
 }
 
 pub fn read_front(s: &[u8], f: Facts) -> FrontRead
@@ -81,9 +83,21 @@ pub fn read_front(s: &[u8], f: Facts) -> FrontRead
     let opening = a.value;
     let upsampling_at = a.next;
     let mut word = [0u32; 1];
-    let u = read_u32_array(s, upsampling_at, sent_upsampling(f, opening), f.extra, upsampling_choices(), 1, &mut word);
+    let u = read_u32_array(
+        s,
+        upsampling_at,
+        sent_upsampling(f, opening),
+        f.extra,
+        upsampling_choices(),
+        1,
+        &mut word,
+    );
     let q = read_quant(s, u, f, opening);
-    let p = read_passes_if(s, q.next, both(opening.all_default == 0, opening.frame_type != 2));
+    let p = read_passes_if(
+        s,
+        q.next,
+        both(opening.all_default == 0, opening.frame_type != 2),
+    );
     let c = read_crop(s, p.next, f, opening);
     let quant = q.value;
     let passes = p.value;
@@ -106,12 +120,27 @@ pub fn read_back(s: &[u8], c: Cursor, f: Facts, o: Opening, crop: Crop) -> BackR
 {
     let full = covers_image(f, crop);
     let shown = is_shown(o);
-    let b = read_blending_if(s, c, shown, f.extra != 0, full, Decider { own: true, mode: 0 });
+    let b = read_blending_if(
+        s,
+        c,
+        shown,
+        f.extra != 0,
+        full,
+        Decider { own: true, mode: 0 },
+    );
     let blending = b.value;
     let blending_at = b.next;
     let mut word = [0u32; 1];
     let mode = blending.mode;
-    let x = read_extra_blending(s, blending_at, shown, f.extra, full, Decider { own: false, mode }, &mut word);
+    let x = read_extra_blending(
+        s,
+        blending_at,
+        shown,
+        f.extra,
+        full,
+        Decider { own: false, mode },
+        &mut word,
+    );
     let e = read_closing(s, x, f, o, both(mode == 0, full));
     let closing = e.value;
     let name_at = e.next;

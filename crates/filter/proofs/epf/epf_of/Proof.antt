@@ -4,19 +4,13 @@ use mathlib.Core.Path.{_∙_}
 use Rattle.filter.proofs.EpfLaws.{of-none, of-some}
 use Rattle.filter.proofs.epf.epf_of.Statement.{statement}
 use Rattle.filter.proofs.epf.epf_of.Tie as tie
-use Rattle.filter.proofs.epf.epf_of.Reads as reads
-use Rattle.filter.proofs.epf.epf_of.Lts as lts
-use Rattle.filter.proofs.epf.epf_disabled.Reads as epf-disabled-reads
 
--- src/epf.rt:51:9
 epf-disabled-requires : tie.Need-epf-disabled-requires
 epf-disabled-requires c κs = search needs
 
--- src/epf.rt:53:9
 returns : tie.Need-returns
 returns c = c .before .before .epf-disabled .ensures ∙ of-none (c .before .before .before .args .params) (c .if1 .taken)
 
--- src/epf.rt:48:1
 returns-2 : tie.Need-returns-2
 returns-2 c = of-some (c .before .before .before .args .params) (c .if1 .left)
 

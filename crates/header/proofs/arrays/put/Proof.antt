@@ -4,26 +4,19 @@ use mathlib.Core.Path.{sym}
 use lib.Seq.{set-out}
 use Rattle.header.proofs.arrays.put.Statement.{statement}
 use Rattle.header.proofs.arrays.put.Tie as tie
-use Rattle.header.proofs.arrays.put.Reads as reads
-use Rattle.header.proofs.arrays.put.Lts as lts
 
--- src/arrays.rt:20:9
 mul-out : tie.Need-mul-out
 mul-out c = search needs
 
--- src/arrays.rt:20:9
 slice-write-out : tie.Need-slice-write-out
 slice-write-out c = search needs
 
--- src/arrays.rt:16:1
 same-length : tie.Need-same-length
 same-length c = search needs
 
--- src/arrays.rt:16:1
 returns : tie.Need-returns
 returns c = search needs
 
--- src/arrays.rt:16:1
 returns-2 : tie.Need-returns-2
 returns-2 c = sym (set-out (c .before .args .out .now) (c .before .args .k) (c .before .args .v) (c .if1 .left))
 

@@ -8,10 +8,6 @@ use lib.ListN.{length, length-set}
 use Rattle.bits.specs.Codec.{u, u32}
 use Rattle.header.proofs.Walks.{Left, left-none, left-more, left-all}
 use Rattle.header.proofs.arrays.read_bits_array.Tie as tie
-use Rattle.header.proofs.arrays.read_bits_array.Reads as reads
-use Rattle.header.proofs.arrays.read_bits_array.Lts as lts
-use Rattle.bits.proofs.read_bits_if.Reads as read-bits-if-reads
-use Rattle.header.proofs.arrays.put.Reads as put-reads
 
 abbrev Inv-loop : tie.InvT-loop
 Inv-loop s limit count n default out₀ at₀ i₀ out at i = Left (u n) limit count default s out₀ at₀ out at i
@@ -19,39 +15,30 @@ Inv-loop s limit count n default out₀ at₀ i₀ out at i = Left (u n) limit c
 abbrev μ-loop : tie.MeasureT-loop
 μ-loop s limit count n default out₀ at₀ i₀ out at i = count - i
 
--- src/arrays.rt:38:5
 loop-holds : tie.Need-loop-holds Inv-loop μ-loop
 loop-holds c = left-none (u (c .before .before .args .n)) (c .before .before .args .limit) (c .before .before .args .count) (c .before .before .args .default) (c .before .before .args .s .now) (c .before .before .args .out .now) (c .before .before .args .c)
 
--- src/arrays.rt:39:13
 read-bits-if-requires : tie.Need-read-bits-if-requires Inv-loop μ-loop
 read-bits-if-requires c κs = search needs
 
--- src/arrays.rt:40:17
 cast-k : tie.Need-cast-k Inv-loop μ-loop
 cast-k c = search needs
 
--- src/arrays.rt:41:9
 put-requires : tie.Need-put-requires Inv-loop μ-loop
 put-requires c κs = search needs
 
--- src/arrays.rt:43:9
 add-i : tie.Need-add-i Inv-loop μ-loop
 add-i c = search needs
 
--- src/arrays.rt:38:5
 loop-less : tie.Need-loop-less Inv-loop μ-loop
 loop-less c = search needs
 
--- src/arrays.rt:38:5
 loop-again : tie.Need-loop-again Inv-loop μ-loop
 loop-again c = left-more (u (c .before .before .before .before .before .before .before .before .before .before .args .n)) (c .before .before .before .before .before .before .before .before .before .before .args .limit) (c .before .before .before .before .before .before .before .before .before .before .args .count) (c .before .before .before .before .before .before .before .before .before .before .args .default) (c .before .before .before .before .before .before .before .before .before .before .args .s .now) (c .before .before .before .before .before .before .before .before .before .before .args .out .now) (c .before .before .before .before .before .before .before .before .before .before .args .c) (c .before .before .before .before .before .before .before .loop .out) (c .before .before .before .before .before .before .before .loop .at) (c .before .before .before .before .before .before .before .loop .i) (c .before .before .before .before .before .before .before .loop .inv) (c .before .before .before .before .before .before .loop-test .taken) (c .before .before .before .before .before .read-bits-if .result) _ _ (c .before .before .before .before .before .read-bits-if .ensures) (refl) (c .before .before .before .put .ensures)
 
--- src/arrays.rt:33:1
 same-length : tie.Need-same-length Inv-loop μ-loop
 same-length c = c .before .loop .inv .size
 
--- src/arrays.rt:33:1
 returns : tie.Need-returns Inv-loop μ-loop
 returns c = left-all (u (c .before .before .before .before .args .n)) (c .before .before .before .before .args .limit) (c .before .before .before .before .args .count) (c .before .before .before .before .args .default) (c .before .before .before .before .args .s .now) (c .before .before .before .before .args .out .now) (c .before .before .before .before .args .c) (c .before .loop .out) (c .before .loop .at) (c .before .loop .i) (c .before .loop .inv) (c .loop-test .left)
 

@@ -10,11 +10,6 @@ use Rattle.header.proofs.Walks.{Left, left-none, left-more, left-all}
 use borrow.Author.Tests.{lt-ltb}
 use Rattle.header.proofs.Walks.{byte-lt}
 use Rattle.header.proofs.arrays.read_bytes.Tie as tie
-use Rattle.header.proofs.arrays.read_bytes.Reads as reads
-use Rattle.header.proofs.arrays.read_bytes.Lts as lts
-use Rattle.bits.proofs.read_bits.Reads as read-bits-reads
-use Rattle.header.proofs.arrays.byte.Reads as byte-reads
-use Rattle.header.proofs.arrays.put_byte.Reads as put-byte-reads
 
 abbrev Inv-loop : tie.InvT-loop
 Inv-loop s count out₀ at₀ i₀ out at i = Left (u 8) count count 0 s out₀ at₀ out at i
@@ -22,43 +17,33 @@ Inv-loop s count out₀ at₀ i₀ out at i = Left (u 8) count count 0 s out₀ 
 abbrev μ-loop : tie.MeasureT-loop
 μ-loop s count out₀ at₀ i₀ out at i = count - i
 
--- src/arrays.rt:78:5
 loop-holds : tie.Need-loop-holds Inv-loop μ-loop
 loop-holds c = left-none (u 8) (c .before .before .args .count) (c .before .before .args .count) 0 (c .before .before .args .s .now) (c .before .before .args .out .now) (c .before .before .args .c)
 
--- src/arrays.rt:79:13
 read-bits-requires : tie.Need-read-bits-requires Inv-loop μ-loop
 read-bits-requires c κs = search needs
 
--- src/arrays.rt:80:13
 byte-requires : tie.Need-byte-requires Inv-loop μ-loop
 byte-requires c κs = byte-lt (c .before .before .before .before .before .args .s .now) _ _ (c .read-bits .ensures)
 
--- src/arrays.rt:81:17
 cast-k : tie.Need-cast-k Inv-loop μ-loop
 cast-k c = search needs
 
--- src/arrays.rt:82:9
 put-byte-requires : tie.Need-put-byte-requires Inv-loop μ-loop
 put-byte-requires c κs = search needs
 
--- src/arrays.rt:84:9
 add-i : tie.Need-add-i Inv-loop μ-loop
 add-i c = search needs
 
--- src/arrays.rt:78:5
 loop-less : tie.Need-loop-less Inv-loop μ-loop
 loop-less c = search needs
 
--- src/arrays.rt:78:5
 loop-again : tie.Need-loop-again Inv-loop μ-loop
 loop-again c = left-more (u 8) (c .before .before .before .before .before .before .before .before .before .before .before .args .count) (c .before .before .before .before .before .before .before .before .before .before .before .args .count) 0 (c .before .before .before .before .before .before .before .before .before .before .before .args .s .now) (c .before .before .before .before .before .before .before .before .before .before .before .args .out .now) (c .before .before .before .before .before .before .before .before .before .before .before .args .c) (c .before .before .before .before .before .before .before .before .loop .out) (c .before .before .before .before .before .before .before .before .loop .at) (c .before .before .before .before .before .before .before .before .loop .i) (c .before .before .before .before .before .before .before .before .loop .inv) (c .before .before .before .before .before .before .before .loop-test .taken) (c .before .before .before .before .before .before .read-bits .result) _ _ (c .before .before .before .before .before .before .read-bits .ensures ∙ rw (← lt-ltb (c .before .before .before .before .before .before .before .before .loop .i) (c .before .before .before .before .before .before .before .before .before .before .before .args .count) (c .before .before .before .before .before .before .before .loop-test .taken))) (c .before .before .before .before .before .byte .ensures) (c .before .before .before .put-byte .ensures)
 
--- src/arrays.rt:73:1
 same-length : tie.Need-same-length Inv-loop μ-loop
 same-length c = c .before .loop .inv .size
 
--- src/arrays.rt:73:1
 returns : tie.Need-returns Inv-loop μ-loop
 returns c = left-all (u 8) (c .before .before .before .before .args .count) (c .before .before .before .before .args .count) 0 (c .before .before .before .before .args .s .now) (c .before .before .before .before .args .out .now) (c .before .before .before .before .args .c) (c .before .loop .out) (c .before .loop .at) (c .before .loop .i) (c .before .loop .inv) (c .loop-test .left)
 

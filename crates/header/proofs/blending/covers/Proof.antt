@@ -3,26 +3,19 @@ use borrow.Author.Needs.{needs}
 use Rattle.header.proofs.Canvas.{covers-before, covers-at, covers-behind}
 use Rattle.header.proofs.blending.covers.Statement.{statement}
 use Rattle.header.proofs.blending.covers.Tie as tie
-use Rattle.header.proofs.blending.covers.Reads as reads
-use Rattle.header.proofs.blending.covers.Lts as lts
 
--- src/blending.rt:77:16
 add-result : tie.Need-add-result
 add-result c = search needs
 
--- src/blending.rt:77:16
 add-result-2 : tie.Need-add-result-2
 add-result-2 c = search needs
 
--- src/blending.rt:77:9
 returns : tie.Need-returns
 returns c = covers-before (c .before .args .n) (c .before .args .size) (c .before .args .image) (c .if1 .taken)
 
--- src/blending.rt:73:1
 returns-2 : tie.Need-returns-2
 returns-2 c = covers-at (c .before .before .args .n) (c .before .before .args .size) (c .before .before .args .image) (c .before .if1 .left) (c .if2 .taken)
 
--- src/blending.rt:73:1
 returns-3 : tie.Need-returns-3
 returns-3 c = covers-behind (c .before .before .args .n) (c .before .before .args .size) (c .before .before .args .image) (c .before .if1 .left) (c .if2 .left)
 

@@ -5,23 +5,16 @@ use mathlib.Core.Bool.{not}
 use Rattle.header.proofs.Canvas.{source-own, source-given}
 use Rattle.header.proofs.blending.has_source.Statement.{statement}
 use Rattle.header.proofs.blending.has_source.Tie as tie
-use Rattle.header.proofs.blending.has_source.Reads as reads
-use Rattle.header.proofs.blending.has_source.Lts as lts
-use Rattle.bits.proofs.both.Reads as both-reads
 
--- src/blending.rt:95:17
 both-requires : tie.Need-both-requires
 both-requires c κs = search needs
 
--- src/blending.rt:95:48
 both-requires-2 : tie.Need-both-requires-2
 both-requires-2 c κs = search needs
 
--- src/blending.rt:92:1
 returns : tie.Need-returns
 returns c = source-own (c .before .before .args .d) (c .before .before .args .own) (c .before .before .args .full) _ (c .before .if1 .taken) (c .both .ensures)
 
--- src/blending.rt:92:1
 returns-2 : tie.Need-returns-2
 returns-2 c = source-given (c .before .before .before .args .d) (c .before .before .before .args .own) (c .before .before .before .args .full) _ (c .before .before .if1 .left) (c .both2 .ensures)
 

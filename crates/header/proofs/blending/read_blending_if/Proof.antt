@@ -5,63 +5,40 @@ use mathlib.Core.Path.{refl, sym, _∙_, ap}
 use Rattle.header.proofs.Bundles.{blending-law}
 use Rattle.header.proofs.blending.read_blending_if.Statement.{statement}
 use Rattle.header.proofs.blending.read_blending_if.Tie as tie
-use Rattle.header.proofs.blending.read_blending_if.Reads as reads
-use Rattle.header.proofs.blending.read_blending_if.Lts as lts
-use Rattle.bits.proofs.both.Reads as both-reads
-use Rattle.bits.proofs.either.Reads as either-reads
-use Rattle.bits.proofs.read_bits_if.Reads as read-bits-if-reads
-use Rattle.bits.proofs.read_bool_if.Reads as read-bool-if-reads
-use Rattle.bits.proofs.read_enum_if.Reads as read-enum-if-reads
-use Rattle.bits.proofs.read_u32_if.Reads as read-u32-if-reads
-use Rattle.header.proofs.blending.alpha_choices.Reads as alpha-choices-reads
-use Rattle.header.proofs.blending.has_source.Reads as has-source-reads
-use Rattle.header.proofs.blending.mode_choices.Reads as mode-choices-reads
 
--- src/blending.rt:102:36
 mode-choices-requires : tie.Need-mode-choices-requires
 mode-choices-requires c κs = search needs
 
--- src/blending.rt:102:9
 read-enum-if-requires : tie.Need-read-enum-if-requires
 read-enum-if-requires c κs = search needs
 
--- src/blending.rt:103:29
 either-requires : tie.Need-either-requires
 either-requires c κs = search needs
 
--- src/blending.rt:103:9
 both-requires : tie.Need-both-requires
 both-requires c κs = search needs
 
--- src/blending.rt:104:43
 alpha-choices-requires : tie.Need-alpha-choices-requires
 alpha-choices-requires c κs = search needs
 
--- src/blending.rt:104:9
 read-u32-if-requires : tie.Need-read-u32-if-requires
 read-u32-if-requires c κs = search needs
 
--- src/blending.rt:105:37
 either-requires-2 : tie.Need-either-requires-2
 either-requires-2 c κs = search needs
 
--- src/blending.rt:105:9
 read-bool-if-requires : tie.Need-read-bool-if-requires
 read-bool-if-requires c κs = search needs
 
--- src/blending.rt:106:27
 has-source-requires : tie.Need-has-source-requires
 has-source-requires c κs = search needs
 
--- src/blending.rt:106:9
 both-requires-2 : tie.Need-both-requires-2
 both-requires-2 c κs = search needs
 
--- src/blending.rt:107:9
 read-bits-if-requires : tie.Need-read-bits-if-requires
 read-bits-if-requires c κs = search needs
 
--- src/blending.rt:99:1
 returns : tie.Need-returns
 returns c =
     ap blendingRead

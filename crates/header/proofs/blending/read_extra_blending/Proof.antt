@@ -6,10 +6,6 @@ use mathlib.Core.Path.{refl}
 use native.Mathlib.Omega.{arith}
 use Rattle.header.proofs.Walks.{LeftBlending, blending-none, blending-more, blending-all}
 use Rattle.header.proofs.blending.read_extra_blending.Tie as tie
-use Rattle.header.proofs.blending.read_extra_blending.Reads as reads
-use Rattle.header.proofs.blending.read_extra_blending.Lts as lts
-use Rattle.header.proofs.arrays.put.Reads as put-reads
-use Rattle.header.proofs.blending.read_blending_if.Reads as read-blending-if-reads
 
 abbrev Inv-loop : tie.InvT-loop
 Inv-loop s on n full d out₀ at₀ i₀ out at i = LeftBlending on n full d s out₀ at₀ out at i
@@ -17,67 +13,51 @@ Inv-loop s on n full d out₀ at₀ i₀ out at i = LeftBlending on n full d s o
 abbrev μ-loop : tie.MeasureT-loop
 μ-loop s on n full d out₀ at₀ i₀ out at i = n - i
 
--- src/blending.rt:126:5
 loop-holds : tie.Need-loop-holds Inv-loop μ-loop
 loop-holds c = blending-none (c .before .before .args .on) (c .before .before .args .n) (c .before .before .args .full) (c .before .before .args .d) (c .before .before .args .s .now) (c .before .before .args .out .now) (c .before .before .args .c)
 
--- src/blending.rt:127:13
 read-blending-if-requires : tie.Need-read-blending-if-requires Inv-loop μ-loop
 read-blending-if-requires c κs = search needs
 
--- src/blending.rt:129:18
 cast-k : tie.Need-cast-k Inv-loop μ-loop
 cast-k c = search needs
 
--- src/blending.rt:129:17
 mul-k : tie.Need-mul-k Inv-loop μ-loop
 mul-k c = search needs
 
--- src/blending.rt:130:9
 put-requires : tie.Need-put-requires Inv-loop μ-loop
 put-requires c κs = search needs
 
--- src/blending.rt:131:18
 add-put : tie.Need-add-put Inv-loop μ-loop
 add-put c = search needs
 
--- src/blending.rt:131:9
 put-requires-2 : tie.Need-put-requires-2 Inv-loop μ-loop
 put-requires-2 c κs = search needs
 
--- src/blending.rt:132:18
 add-put-2 : tie.Need-add-put-2 Inv-loop μ-loop
 add-put-2 c = search needs
 
--- src/blending.rt:132:9
 put-requires-3 : tie.Need-put-requires-3 Inv-loop μ-loop
 put-requires-3 c κs = search needs
 
--- src/blending.rt:133:18
 add-put-3 : tie.Need-add-put-3 Inv-loop μ-loop
 add-put-3 c = search needs
 
--- src/blending.rt:133:9
 put-requires-4 : tie.Need-put-requires-4 Inv-loop μ-loop
 put-requires-4 c κs = search needs
 
--- src/blending.rt:135:9
 add-i : tie.Need-add-i Inv-loop μ-loop
 add-i c = search needs
 
--- src/blending.rt:126:5
 loop-less : tie.Need-loop-less Inv-loop μ-loop
 loop-less c = search needs
 
--- src/blending.rt:126:5
 loop-again : tie.Need-loop-again Inv-loop μ-loop
 loop-again c = blending-more (c .before .before .before .before .before .before .before .before .before .before .before .before .before .before .before .before .before .before .before .before .before .before .before .args .on) (c .before .before .before .before .before .before .before .before .before .before .before .before .before .before .before .before .before .before .before .before .before .before .before .args .n) (c .before .before .before .before .before .before .before .before .before .before .before .before .before .before .before .before .before .before .before .before .before .before .before .args .full) (c .before .before .before .before .before .before .before .before .before .before .before .before .before .before .before .before .before .before .before .before .before .before .before .args .d) (c .before .before .before .before .before .before .before .before .before .before .before .before .before .before .before .before .before .before .before .before .before .before .before .args .s .now) (c .before .before .before .before .before .before .before .before .before .before .before .before .before .before .before .before .before .before .before .before .before .before .before .args .out .now) (c .before .before .before .before .before .before .before .before .before .before .before .before .before .before .before .before .before .before .before .before .before .before .before .args .c) (c .before .before .before .before .before .before .before .before .before .before .before .before .before .before .before .before .before .before .before .before .loop .out) (c .before .before .before .before .before .before .before .before .before .before .before .before .before .before .before .before .before .before .before .before .loop .at) (c .before .before .before .before .before .before .before .before .before .before .before .before .before .before .before .before .before .before .before .before .loop .i) (c .before .before .before .before .before .before .before .before .before .before .before .before .before .before .before .before .before .before .before .before .loop .inv) (c .before .before .before .before .before .before .before .before .before .before .before .before .before .before .before .before .before .before .before .loop-test .taken) _ _ _ _ _ (c .before .before .before .before .before .before .before .before .before .before .before .before .before .before .before .before .before .before .read-blending-if .ensures) (c .before .before .before .before .before .before .before .before .before .before .before .before .before .before .before .put .ensures) (c .before .before .before .before .before .before .before .before .before .before .before .put2 .ensures) (c .before .before .before .before .before .before .before .put3 .ensures) (c .before .before .before .put4 .ensures)
 
--- src/blending.rt:121:1
 same-length : tie.Need-same-length Inv-loop μ-loop
 same-length c = c .before .loop .inv .size
 
--- src/blending.rt:121:1
 returns : tie.Need-returns Inv-loop μ-loop
 returns c = blending-all (c .before .before .before .before .args .on) (c .before .before .before .before .args .n) (c .before .before .before .before .args .full) (c .before .before .before .before .args .d) (c .before .before .before .before .args .s .now) (c .before .before .before .before .args .out .now) (c .before .before .before .before .args .c) (c .before .loop .out) (c .before .loop .at) (c .before .loop .i) (c .before .loop .inv) (c .loop-test .left)
 

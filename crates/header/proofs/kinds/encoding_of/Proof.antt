@@ -2,14 +2,10 @@
 use Rattle.header.proofs.kinds.encoding_of.Statement.{statement}
 use borrow.Author.Tests.{eq-eqb, ne-eqb}
 use Rattle.header.proofs.kinds.encoding_of.Tie as tie
-use Rattle.header.proofs.kinds.encoding_of.Reads as reads
-use Rattle.header.proofs.kinds.encoding_of.Lts as lts
 
--- src/kinds.rt:45:1
 returns : tie.Need-returns
 returns c = rw (eq-eqb (c .before .args .n) 0 (c .if1 .taken))
 
--- src/kinds.rt:45:1
 returns-2 : tie.Need-returns-2
 returns-2 c = rw (ne-eqb (c .before .args .n) 0 (c .if1 .left))
 

@@ -2,22 +2,16 @@
 use Rattle.header.proofs.kinds.frame_type_of.Statement.{statement}
 use borrow.Author.Tests.{eq-eqb, ne-eqb}
 use Rattle.header.proofs.kinds.frame_type_of.Tie as tie
-use Rattle.header.proofs.kinds.frame_type_of.Reads as reads
-use Rattle.header.proofs.kinds.frame_type_of.Lts as lts
 
--- src/kinds.rt:32:9
 returns : tie.Need-returns
 returns c = rw (eq-eqb (c .before .args .n) 0 (c .if1 .taken))
 
--- src/kinds.rt:35:9
 returns-2 : tie.Need-returns-2
 returns-2 c = rw (ne-eqb (c .before .before .args .n) 0 (c .before .if1 .left), eq-eqb (c .before .before .args .n) 1 (c .if2 .taken))
 
--- src/kinds.rt:28:1
 returns-3 : tie.Need-returns-3
 returns-3 c = rw (ne-eqb (c .before .before .before .args .n) 0 (c .before .before .if1 .left), ne-eqb (c .before .before .before .args .n) 1 (c .before .if2 .left), eq-eqb (c .before .before .before .args .n) 2 (c .if3 .taken))
 
--- src/kinds.rt:28:1
 returns-4 : tie.Need-returns-4
 returns-4 c = rw (ne-eqb (c .before .before .before .args .n) 0 (c .before .before .if1 .left), ne-eqb (c .before .before .before .args .n) 1 (c .before .if2 .left), ne-eqb (c .before .before .before .args .n) 2 (c .if3 .left))
 

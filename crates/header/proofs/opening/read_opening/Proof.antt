@@ -7,73 +7,49 @@ use mathlib.Core.Path.{refl, sym, _∙_, ap}
 use Rattle.header.proofs.Bundles.{opening-law}
 use Rattle.header.proofs.opening.read_opening.Statement.{statement}
 use Rattle.header.proofs.opening.read_opening.Tie as tie
-use Rattle.header.proofs.opening.read_opening.Reads as reads
-use Rattle.header.proofs.opening.read_opening.Lts as lts
-use Rattle.bits.proofs.both.Reads as both-reads
-use Rattle.bits.proofs.read_bits_if.Reads as read-bits-if-reads
-use Rattle.bits.proofs.read_bool_if.Reads as read-bool-if-reads
-use Rattle.bits.proofs.read_u32_if.Reads as read-u32-if-reads
-use Rattle.bits.proofs.read_u64_if.Reads as read-u64-if-reads
-use Rattle.header.proofs.kinds.FrameFlags.use_lf_frame.Reads as use-lf-frame-reads
-use Rattle.header.proofs.opening.upsampling_choices.Reads as upsampling-choices-reads
 
--- src/opening.rt:49:9
 read-bool-if-requires : tie.Need-read-bool-if-requires
 read-bool-if-requires c κs = search needs
 
--- src/opening.rt:51:9
 read-bits-if-requires : tie.Need-read-bits-if-requires
 read-bits-if-requires c κs = search needs
 
--- src/opening.rt:52:9
 read-bits-if-requires-2 : tie.Need-read-bits-if-requires-2
 read-bits-if-requires-2 c κs = search needs
 
--- src/opening.rt:53:9
 read-u64-if-requires : tie.Need-read-u64-if-requires
 read-u64-if-requires c κs = search needs
 
--- src/opening.rt:54:45
 both-requires : tie.Need-both-requires
 both-requires c κs = search needs
 
--- src/opening.rt:54:9
 read-bool-if-requires-2 : tie.Need-read-bool-if-requires-2
 read-bool-if-requires-2 c κs = search needs
 
--- src/opening.rt:55:9
 use-lf-frame-requires : tie.Need-use-lf-frame-requires
 use-lf-frame-requires c κs = search needs
 
--- src/opening.rt:56:9
 both-requires-2 : tie.Need-both-requires-2
 both-requires-2 c κs = search needs
 
--- src/opening.rt:57:9
 read-bits-if-requires-3 : tie.Need-read-bits-if-requires-3
 read-bits-if-requires-3 c κs = search needs
 
--- src/opening.rt:58:9
 read-bits-if-requires-4 : tie.Need-read-bits-if-requires-4
 read-bits-if-requires-4 c κs = search needs
 
--- src/opening.rt:59:9
 read-bits-if-requires-5 : tie.Need-read-bits-if-requires-5
 read-bits-if-requires-5 c κs = search needs
 
--- src/opening.rt:60:38
 both-requires-3 : tie.Need-both-requires-3
 both-requires-3 c κs = search needs
 
--- src/opening.rt:60:53
 upsampling-choices-requires : tie.Need-upsampling-choices-requires
 upsampling-choices-requires c κs = search needs
 
--- src/opening.rt:60:9
 read-u32-if-requires : tie.Need-read-u32-if-requires
 read-u32-if-requires c κs = search needs
 
--- src/opening.rt:46:1
 returns : tie.Need-returns
 returns c =
     ap openingRead

@@ -4,63 +4,40 @@ use mathlib.Core.Path.{_∙_}
 use Rattle.header.proofs.Whole.{back-law}
 use Rattle.header.proofs.parts.read_back.Statement.{statement}
 use Rattle.header.proofs.parts.read_back.Tie as tie
-use Rattle.header.proofs.parts.read_back.Reads as reads
-use Rattle.header.proofs.parts.read_back.Lts as lts
-use Rattle.bits.proofs.both.Reads as both-reads
-use Rattle.bits.proofs.read_extensions_if.Reads as read-extensions-if-reads
-use Rattle.filter.proofs.read_restoration_filter_if.Reads as read-restoration-filter-if-reads
-use Rattle.header.proofs.arrays.read_bytes.Reads as read-bytes-reads
-use Rattle.header.proofs.blending.covers_image.Reads as covers-image-reads
-use Rattle.header.proofs.blending.read_blending_if.Reads as read-blending-if-reads
-use Rattle.header.proofs.blending.read_extra_blending.Reads as read-extra-blending-reads
-use Rattle.header.proofs.closing.read_closing.Reads as read-closing-reads
-use Rattle.header.proofs.parts.is_shown.Reads as is-shown-reads
 
--- src/parts.rt:107:9
 covers-image-requires : tie.Need-covers-image-requires
 covers-image-requires c κs = search needs
 
--- src/parts.rt:108:9
 is-shown-requires : tie.Need-is-shown-requires
 is-shown-requires c κs = search needs
 
--- src/parts.rt:109:9
 read-blending-if-requires : tie.Need-read-blending-if-requires
 read-blending-if-requires c κs = search needs
 
--- src/parts.rt:114:101
 slice-aggregate-read-extra-blending : tie.Need-slice-aggregate-read-extra-blending
 slice-aggregate-read-extra-blending c = search needs
 
--- src/parts.rt:114:9
 read-extra-blending-requires : tie.Need-read-extra-blending-requires
 read-extra-blending-requires c κs = search needs
 
--- src/parts.rt:115:38
 both-requires : tie.Need-both-requires
 both-requires c κs = search needs
 
--- src/parts.rt:115:9
 read-closing-requires : tie.Need-read-closing-requires
 read-closing-requires c κs = search needs
 
--- src/parts.rt:119:57
 slice-aggregate-read-bytes : tie.Need-slice-aggregate-read-bytes
 slice-aggregate-read-bytes c = search needs
 
--- src/parts.rt:119:9
 read-bytes-requires : tie.Need-read-bytes-requires
 read-bytes-requires c κs = search needs
 
--- src/parts.rt:121:9
 read-restoration-filter-if-requires : tie.Need-read-restoration-filter-if-requires
 read-restoration-filter-if-requires c κs = search needs
 
--- src/parts.rt:123:9
 read-extensions-if-requires : tie.Need-read-extensions-if-requires
 read-extensions-if-requires c κs = search needs
 
--- src/parts.rt:104:1
 returns : tie.Need-returns
 returns c =
     back-law (c .before .before .before .before .before .before .before .before .before .before .before .before .before .before .before .before .before .before .before .before .before .before .args .s .now) (c .before .before .before .before .before .before .before .before .before .before .before .before .before .before .before .before .before .before .before .before .before .before .args .c) (c .before .before .before .before .before .before .before .before .before .before .before .before .before .before .before .before .before .before .before .before .before .before .args .f) (c .before .before .before .before .before .before .before .before .before .before .before .before .before .before .before .before .before .before .before .before .before .before .args .o) (c .before .before .before .before .before .before .before .before .before .before .before .before .before .before .before .before .before .before .before .before .before .before .args .crop) _ _ _ _ _ _ _ _ _ _

@@ -5,70 +5,46 @@ use Rattle.header.specs.Shape.{passesRead}
 use Rattle.header.proofs.Bundles.{passes-law}
 use Rattle.header.proofs.shape.read_passes_if.Statement.{statement}
 use Rattle.header.proofs.shape.read_passes_if.Tie as tie
-use Rattle.header.proofs.shape.read_passes_if.Reads as reads
-use Rattle.header.proofs.shape.read_passes_if.Lts as lts
-use Rattle.bits.proofs.read_u32_if.Reads as read-u32-if-reads
-use Rattle.header.proofs.arrays.read_bits_array.Reads as read-bits-array-reads
-use Rattle.header.proofs.arrays.read_u32_array.Reads as read-u32-array-reads
-use Rattle.header.proofs.opening.upsampling_choices.Reads as upsampling-choices-reads
-use Rattle.header.proofs.shape.ds_choices.Reads as ds-choices-reads
-use Rattle.header.proofs.shape.last_pass_choices.Reads as last-pass-choices-reads
-use Rattle.header.proofs.shape.one_less.Reads as one-less-reads
-use Rattle.header.proofs.shape.pass_choices.Reads as pass-choices-reads
 
--- src/shape.rt:137:35
 pass-choices-requires : tie.Need-pass-choices-requires
 pass-choices-requires c κs = search needs
 
--- src/shape.rt:137:9
 read-u32-if-requires : tie.Need-read-u32-if-requires
 read-u32-if-requires c κs = search needs
 
--- src/shape.rt:139:46
 ds-choices-requires : tie.Need-ds-choices-requires
 ds-choices-requires c κs = search needs
 
--- src/shape.rt:139:9
 read-u32-if-requires-2 : tie.Need-read-u32-if-requires-2
 read-u32-if-requires-2 c κs = search needs
 
--- src/shape.rt:140:9
 one-less-requires : tie.Need-one-less-requires
 one-less-requires c κs = search needs
 
--- src/shape.rt:144:59
 slice-aggregate-read-bits-array : tie.Need-slice-aggregate-read-bits-array
 slice-aggregate-read-bits-array c = search needs
 
--- src/shape.rt:144:9
 read-bits-array-requires : tie.Need-read-bits-array-requires
 read-bits-array-requires c κs = search needs
 
--- src/shape.rt:145:47
 upsampling-choices-requires : tie.Need-upsampling-choices-requires
 upsampling-choices-requires c κs = search needs
 
--- src/shape.rt:145:72
 slice-aggregate-read-u32-array : tie.Need-slice-aggregate-read-u32-array
 slice-aggregate-read-u32-array c = search needs
 
--- src/shape.rt:145:9
 read-u32-array-requires : tie.Need-read-u32-array-requires
 read-u32-array-requires c κs = search needs
 
--- src/shape.rt:146:50
 last-pass-choices-requires : tie.Need-last-pass-choices-requires
 last-pass-choices-requires c κs = search needs
 
--- src/shape.rt:146:74
 slice-aggregate-read-u32-array-2 : tie.Need-slice-aggregate-read-u32-array-2
 slice-aggregate-read-u32-array-2 c = search needs
 
--- src/shape.rt:146:9
 read-u32-array-requires-2 : tie.Need-read-u32-array-requires-2
 read-u32-array-requires-2 c κs = search needs
 
--- src/shape.rt:134:1
 returns : tie.Need-returns
 returns c =
     ap passesRead

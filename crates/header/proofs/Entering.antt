@@ -1,0 +1,172 @@
+-- The entry: which refusal when, the record of what was read, and the lent buffers.
+use Prim.Native.Nat.{ℕ, _*_, _≤_, _<_}
+use mathlib.Core.Path.{_≡_, refl, sym, _∙_, ap}
+use mathlib.Core.Bool.{Bool, true, false, not, _&&_, _||_}
+use mathlib.Core.List.{List, [], _∷_}
+use lib.Dec.{leb, ltb, eqb}
+use lib.IntN.{ℤ}
+use lib.ListN.{length}
+use lib.Seq.{sets}
+use borrow.Author.Tests.{lt-ltb, le-ltb, eq-eqb, ne-eqb}
+use Rattle.bits.specs.declared.Refusal.{Refusal}
+use Rattle.bits.specs.declared.Cursor.{Cursor}
+use Rattle.bits.specs.Refusals.{pick, refusal, none, start}
+use Rattle.bits.specs.Codec.{u, u32, signed}
+use Rattle.bits.specs.Table.{Out, ends, read, bind}
+use Rattle.filter.specs.declared.RestorationFilter.{RestorationFilter}
+use Rattle.filter.specs.Filter.{filterDisabled}
+use Rattle.header.specs.declared.Facts.{Facts}
+use Rattle.header.specs.declared.FrameHeader.{FrameHeader}
+use Rattle.header.specs.declared.opening.Opening.{Opening}
+use Rattle.header.specs.declared.shape.Crop.{Crop}
+use Rattle.header.specs.declared.blending.Blending.{Blending}
+use Rattle.header.specs.declared.blending.BlendingInfo.{BlendingInfo}
+use Rattle.header.specs.declared.kinds.BlendMode.{BlendMode}
+use Rattle.header.specs.declared.kinds.FrameType.{FrameType}
+use Rattle.header.specs.declared.kinds.Encoding.{Encoding}
+use Rattle.header.specs.declared.parts.Front.{Front}
+use Rattle.header.specs.declared.parts.Back.{Back}
+use Rattle.header.specs.declared.parts.FrontRead.{FrontRead}
+use Rattle.header.specs.declared.parts.BackRead.{BackRead}
+use Rattle.header.specs.declared.entry.HeaderAnswer.{HeaderAnswer}
+use Rattle.header.specs.Kinds.{frameType, encoding, blendMode}
+use Rattle.header.specs.Arrays.{array, Arrayed}
+use Rattle.header.specs.Opening.{upsamplings}
+use Rattle.header.specs.Blending.{coversImage, resets, byColour, words, extras, Extras}
+use Rattle.header.specs.Header.{Header, Begun, Ended, sentUpsampling, shown, front, back, header, Fronted, Backed}
+use Rattle.header.specs.Questions.{colorChannels, blendingInfo, frameHeader, zeroHeader}
+use Rattle.header.specs.Entry.{badFacts, noRoom, judged, stands, refusalOf, refusedHeader, answered, kept, Headed}
+use Rattle.header.proofs.Walks.{read-then}
+
+-- 2, 1, 3
+module _ (n : ℕ) (f : Facts) (name upsampling blending : ℕ) (r : Refusal) where
+  pub too-long : 16777216 < n → r ≡ refusal 2 0 → r ≡ judged n f name upsampling blending
+  unfolding judged
+  too-long h e = e ∙ rw (lt-ltb 16777216 n h)
+
+  module _ (h : n ≤ 16777216) (b : Bool) (eb : b ≡ badFacts f) where
+    pub bad-facts : b ≡ true → r ≡ refusal 1 0 → r ≡ judged n f name upsampling blending
+    unfolding judged
+    bad-facts t e = e ∙ rw (le-ltb 16777216 n h, ← eb, t)
+
+    module _ (ok : b ≡ false) (x y : Bool) (ex : x ≡ (ltb upsampling (f .extra) || ltb blending (4 * f .extra))) (ey : y ≡ (ltb name 1071 || x)) where
+      pub short : y ≡ true → r ≡ refusal 3 0 → r ≡ judged n f name upsampling blending
+      unfolding judged
+      short t e = e ∙ rw (le-ltb 16777216 n h, ← eb, ok, ← ex, ← ey, t)
+
+      pub good : y ≡ false → r ≡ none → r ≡ judged n f name upsampling blending
+      unfolding judged
+      good t e = e ∙ rw (le-ltb 16777216 n h, ← eb, ok, ← ex, ← ey, t)
+
+pub facts-by : (f : Facts) (a b c d : Bool) → a ≡ (eqb (f .width) 0 || ltb 1073741824 (f .width)) → b ≡ (eqb (f .height) 0 || ltb 1073741824 (f .height))
+    → c ≡ (a || b) → d ≡ (c || ltb 256 (f .extra)) → d ≡ badFacts f
+facts-by f a b c d ea eb ec ed = ed ∙ rw (ec, ea, eb)
+
+-- the two parts are the header
+pub header-law : (f : Facts) (s : List ℕ) (a : FrontRead) (b : BackRead) → Fronted f s a → Backed f (a .value .opening) (a .value .crop) s (a .next) b
+    → stands f s ≡ record {
+      value = record {
+        front = a .value;
+        upsampling = read (array (u32 upsamplings) (sentUpsampling f (a .value .opening)) (f .extra) 1 (λ (x : List ℕ) (i : ℕ). 0)) s (a .«upsampling_at») .value;
+        back = b .value;
+        blending = read (extras (shown (a .value .opening)) (f .extra) (coversImage f (a .value .crop)) (byColour (b .value .blending .mode))) s (b .«blending_at») .value;
+        name = read (array (u 8) (b .value .closing .«name_length») (b .value .closing .«name_length») 0 (λ (x : List ℕ) (i : ℕ). 0)) s (b .«name_at») .value;
+      };
+      next = b .next;
+    }
+unfolding header read
+header-law f s a b fa fb =
+    let ups = read (array (u32 upsamplings) (sentUpsampling f (a .value .opening)) (f .extra) 1 (λ (x : List ℕ) (i : ℕ). 0)) s (a .«upsampling_at») .value in
+    let first : _≡_ {A = Out Begun} (record { value = record { front = a .value; upsampling = ups }; next = a .next }) (read (front f) s (start 0)) =
+    sym (λ i. record { value = record { front = fa .value i; upsampling = fa .upsampling i }; next = fa .next i }) in
+    let second : _≡_ {A = Ended} (read (back f (a .value .opening) (a .value .crop)) s (a .next) .value) (record {
+      back = b .value;
+      blending = read (extras (shown (a .value .opening)) (f .extra) (coversImage f (a .value .crop)) (byColour (b .value .blending .mode))) s (b .«blending_at») .value;
+      name = read (array (u 8) (b .value .closing .«name_length») (b .value .closing .«name_length») 0 (λ (x : List ℕ) (i : ℕ). 0)) s (b .«name_at») .value;
+    }) = λ i. record { back = fb .value i; blending = fb .blending i; name = fb .name i } in
+    read-then (front f) _ s (start 0) (record { value = record { front = a .value; upsampling = ups }; next = a .next }) first
+    ∙ read-then (back f (a .value .opening) (a .value .crop)) _ s (a .next) (read (back f (a .value .opening) (a .value .crop)) s (a .next)) refl
+    ∙ rw (second, fb .next)
+
+module _ (f : Facts) (s name upsampling blending : List ℕ) (before : Refusal) (eb : before ≡ judged (length s) f (length name) (length upsampling) (length blending)) where
+  -- refused before anything was read
+  pub refused-first : (before .number ≡ 0 → ⊥) → (r : HeaderAnswer) → r ≡ refusedHeader before → Headed f s r name name upsampling upsampling blending blending
+  unfolding answered
+  refused-first h r er =
+      let no : eqb (judged (length s) f (length name) (length upsampling) (length blending) .number) 0 ≡ false = rw (← eb) (ne-eqb (before .number) 0 h) in
+      record { answer = er ∙ rw (eb, no, no); named = rw (no, no); upsampled = rw (no, no); blended = rw (no, no) }
+
+  module _ (go : before .number ≡ 0) (a : FrontRead) (b : BackRead) (fa : Fronted f s a) (fb : Backed f (a .value .opening) (a .value .crop) s (a .next) b) where
+    yes : eqb (judged (length s) f (length name) (length upsampling) (length blending) .number) 0 ≡ true
+    yes = rw (← eb) (eq-eqb (before .number) 0 go)
+
+    is : stands f s .next ≡ b .next
+    is = ap (λ (o : Out Header). o .next) (header-law f s a b fa fb)
+
+    -- refused while it was read
+    pub refused-later : (b .next .fault .number ≡ 0 → ⊥) → (r : HeaderAnswer) → r ≡ refusedHeader (b .next .fault) → Headed f s r name name upsampling upsampling blending blending
+    unfolding answered
+    refused-later h r er =
+        let no : eqb (b .next .fault .number) 0 ≡ false = ne-eqb (b .next .fault .number) 0 h in
+        record { answer = er ∙ rw (yes, is, no); named = rw (yes, is, no); upsampled = rw (yes, is, no); blended = rw (yes, is, no) }
+
+    -- accepted
+    pub accepted-all : b .next .fault .number ≡ 0 → (hd : FrameHeader) (acc : Refusal) (name' upsampling' blending' : List ℕ) (w e n : Cursor)
+        → hd ≡ frameHeader f (a .value) (b .value) → acc ≡ none
+        → Arrayed (u32 upsamplings) (sentUpsampling f (a .value .opening)) (f .extra) 1 s (a .«upsampling_at») w upsampling upsampling'
+        → Extras (shown (a .value .opening)) (f .extra) (coversImage f (a .value .crop)) (byColour (b .value .blending .mode)) s (b .«blending_at») e blending blending'
+        → Arrayed (u 8) (b .value .closing .«name_length») (b .value .closing .«name_length») 0 s (b .«name_at») n name name'
+        → Headed f s (record { header = hd; end = b .next .at; refusal = acc }) name name' upsampling upsampling' blending blending'
+    unfolding answered
+    accepted-all h hd acc name' upsampling' blending' w e n eh ea wu we wn =
+        let ok : eqb (b .next .fault .number) 0 ≡ true = eq-eqb (b .next .fault .number) 0 h in
+        let all = header-law f s a b fa fb in
+        record {
+          answer = rw (yes, all, ok, eh, ea);
+          named = wn .words ∙ rw (yes, all, ok);
+          upsampled = wu .words ∙ rw (yes, all, ok);
+          blended = we .content ∙ rw (yes, all, ok);
+        }
+
+-- the record of what was read
+pub assembled : (f : Facts) (a : Front) (b : Back) (k : FrameType) (e : Encoding) (ch : ℕ) (x y : ℤ) (i : BlendingInfo) (full r : Bool)
+    → k ≡ frameType (a .opening .«frame_type») → e ≡ encoding (a .opening .encoding) → ch ≡ colorChannels f (a .opening)
+    → x ≡ signed (a .crop .x0) → y ≡ signed (a .crop .y0) → i ≡ blendingInfo (b .blending) → full ≡ coversImage f (a .crop) → r ≡ (eqb (b .blending .mode) 0 && full)
+    → _≡_ {A = FrameHeader} (record {
+      «frame_type» = k;
+      encoding = e;
+      flags = record { 0 = a .opening .flags };
+      «do_ycbcr» = eqb (a .opening .«do_ycbcr») 1;
+      «encoded_color_channels» = ch;
+      «jpeg_upsampling» = a .opening .jpeg0 ∷ a .opening .jpeg1 ∷ a .opening .jpeg2 ∷ [];
+      upsampling = a .opening .upsampling;
+      «group_size_shift» = a .quant .«group_size_shift»;
+      «x_qm_scale» = a .quant .«x_qm_scale»;
+      «b_qm_scale» = a .quant .«b_qm_scale»;
+      passes = a .passes;
+      «lf_level» = a .crop .«lf_level»;
+      «have_crop» = eqb (a .crop .«have_crop») 1;
+      x0 = x;
+      y0 = y;
+      width = a .crop .width;
+      height = a .crop .height;
+      «blending_info» = i;
+      duration = b .closing .duration;
+      timecode = b .closing .timecode;
+      «is_last» = eqb (b .closing .«is_last») 1;
+      «save_as_reference» = b .closing .«save_as_reference»;
+      «resets_canvas» = r;
+      «save_before_ct» = eqb (b .closing .«save_before_ct») 1;
+      «name_length» = b .closing .«name_length»;
+      «restoration_filter» = b .filter;
+    }) (frameHeader f a b)
+unfolding frameHeader
+assembled f a b k e ch x y i full r pk pe pc px py pi pf pr = rw (pk, pe, pc, px, py, pi, pr, pf)
+
+pub info-is : (b : Blending) (m : BlendMode) → m ≡ blendMode (b .mode)
+    → _≡_ {A = BlendingInfo} (record { mode = m; «alpha_channel» = b .«alpha_channel»; clamp = eqb (b .clamp) 1; source = b .source }) (blendingInfo b)
+info-is b m e = rw e
+
+pub refused-is : (r : Refusal) (h : FrameHeader) → h ≡ zeroHeader → _≡_ {A = HeaderAnswer} (record { header = h; end = 0; refusal = r }) (refusedHeader r)
+unfolding refusedHeader
+refused-is r h e = rw e
