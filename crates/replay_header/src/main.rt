@@ -87,7 +87,13 @@ fn read(r: &[u8], s: &[u8], name: &mut [u8], upsampling: &mut [u32], blending: &
     let a = least(replay::word(r, 20) as usize, name.len());
     let b = least(replay::word(r, 24) as usize, upsampling.len());
     let c = least(replay::word(r, 28) as usize, blending.len());
-    show(header::read_frame_header(s, facts(r), &mut name[..a], &mut upsampling[..b], &mut blending[..c]));
+    show(header::read_frame_header(
+        s,
+        facts(r),
+        &mut name[..a],
+        &mut upsampling[..b],
+        &mut blending[..c],
+    ));
 }
 
 fn facts(r: &[u8]) -> Facts {
@@ -204,7 +210,14 @@ fn closing(sum: u64, full: bool, h: FrameHeader) -> u64 {
 
 fn frame(sum: u64, full: bool, h: FrameHeader) -> u64 {
     let f = h.frame();
-    let six = [f.width, f.height, f.upsampling, f.lf_level, f.group_size_shift, f.num_passes];
+    let six = [
+        f.width,
+        f.height,
+        f.upsampling,
+        f.lf_level,
+        f.group_size_shift,
+        f.num_passes,
+    ];
     numbers(sum, full, &six)
 }
 
@@ -243,7 +256,14 @@ fn questions(r: &[u8]) {
     let sum = numbers(0, true, &six);
     let low = replay::word(r, 8);
     let high = replay::word(r, 12);
-    io::print_decimal(1, flags(sum, true, FrameFlags((low as u64) + (high as u64) * 4294967296)));
+    io::print_decimal(
+        1,
+        flags(
+            sum,
+            true,
+            FrameFlags((low as u64) + (high as u64) * 4294967296),
+        ),
+    );
     io::write_all(1, b"\n");
 }
 
