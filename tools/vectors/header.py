@@ -551,7 +551,7 @@ def cuts(f, w):
 def question(n, flags):
     emit(2, [n, flags & 0xFFFFFFFF, flags >> 32])
     t, m = min(n, 3), min(n, 4)
-    names = [t, int(t in (0, 3)), int(t in (0, 1)), min(n, 1), m, int(m in (2, 3))]
+    names = [t, int(t in (0, 3)), int(t == 1), int(t in (0, 1)), min(n, 1), m, int(m in (2, 3))]
     five = flag_numbers(flags)
     LINES.append('\t'.join(map(str, names + five + [mixed(names + five)])))
 

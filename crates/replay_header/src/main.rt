@@ -245,15 +245,16 @@ fn questions(r: &[u8]) {
     let t = header::frame_type_of(n);
     let e = header::encoding_of(n);
     let m = header::blend_mode_of(n);
-    let six = [
+    let seven = [
         frame_type(t),
         bit(t.is_normal_frame()),
+        bit(t.is_lf_frame()),
         bit(t.is_progressive_frame()),
         encoding(e),
         blend_mode(m),
         bit(m.use_alpha()),
     ];
-    let sum = numbers(0, true, &six);
+    let sum = numbers(0, true, &seven);
     let low = replay::word(r, 8);
     let high = replay::word(r, 12);
     io::print_decimal(
