@@ -1,7 +1,7 @@
 #!/usr/bin/env python3
 """Writes crates/replay_bits/stdin and stdout: vectors of the bit reader, and what is due for each.
 
-What is due is computed here by a reader of its own, written from the rules of document 01 ("Bits and numbers") on a string of bits, and never by the code
+What is due is computed here by a reader of its own, written from the rules ("Bits and numbers") on a string of bits, and never by the code
 under test. Run at the project's root: python3 tools/vectors/bits.py
 
 A record has 128 bytes, numbers of 32 bits with the low byte first: kind, on, place, fault before it, n, default, then 8 numbers (four choices of base and bits;
@@ -234,7 +234,7 @@ for d in TABLES:
 u32(b'\xff' * 8, 3, TABLES[1], on=0, default=5)
 u32(b'\xff' * 8, 3, TABLES[1], fault=12, default=5)
 
-# blend modes: 0, 1, 2, 3 + u(2); five cases (document 01: selector 3 with 0 and 1 is MulAdd and Mul, with 2 and 3 it is refused)
+# blend modes: 0, 1, 2, 3 + u(2); five cases (selector 3 with 0 and 1 is MulAdd and Mul, with 2 and 3 it is refused)
 MODES = [(0, 0), (1, 0), (2, 0), (3, 2)]
 for k in range(4):
     for x in range(4):

@@ -1,7 +1,7 @@
 #!/usr/bin/env python3
 """Vectors for the crate `filter`: writes crates/replay_filter/stdin and stdout.
 
-Run it at the project's root. What is due is computed here from document 01 ("Bits and numbers", "Filter fields") and the text of
+Run it at the project's root. What is due is computed here from the rules ("Bits and numbers", "Filter fields") and the text of
 src/filter.rs: a reader over a string of bits, exact fractions for floats and for the weights test. Nothing is taken from the Rattle code.
 The bits come from a writer of its own, and for whatever is accepted the values written are compared with the values read.
 

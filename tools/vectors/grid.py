@@ -3,8 +3,8 @@
 
 Run it at the project's root: python3 tools/vectors/grid.py
 
-What is due is computed here from document 01 ("Grid", "Sections", the refusal table), not from the Rattle code: sizes as exact fractions
-rounded up, groups as the steps of Python ranges. The vectors are P3, P7, P8 and the errors of document 01, each bound of refusal 8 from
+What is due is computed here from the rules ("Grid", "Sections", the refusal table), not from the Rattle code: sizes as exact fractions
+rounded up, groups as the steps of Python ranges. The vectors are P3, P7, P8 and the errors of the rules, each bound of refusal 8 from
 both sides, sizes around each group side and eight times it, all LF levels and upsamplings, and numbers drawn from a fixed seed.
 
 A record is 18 words of 32 bits, low byte first: width, height, upsampling, lf_level, group_size_shift, num_passes; the upsampling that the

@@ -1,10 +1,10 @@
 #!/usr/bin/env python3
 """Vectors for the crate `header`: writes crates/replay_header/stdin and stdout.
 
-Run it at the project's root. What is due is computed by a reader of its own (header_reading.py), written from document 01 ("Bounds", "Refusal numbers", "Bits and numbers",
+Run it at the project's root. What is due is computed by a reader of its own (header_reading.py), written from the rules ("Bounds", "Refusal numbers", "Bits and numbers",
 "Header fields", "Filter fields") and the bundles of src/header.rs, going down their fields in order. Nothing is taken from the Rattle code. The bits come from
 a writer of its own (header_writing.py) that is handed chosen values; for whatever is accepted, what was chosen is compared with what was read, and for every cut the place of the
-refusal is compared with where the writer began the field that is cut. P1, P2, P3, P9, P12 and the blend selectors are document 01's.
+refusal is compared with where the writer began the field that is cut. P1, P2, P3, P9, P12 and the blend selectors are those of the rules.
 
 A record is 16 words of 32 bits and then its input bytes. Word 0: 0 one run, 1 a run on every prefix of the input, 2 the questions on enums and flags.
   runs: width, height, flags (1 XYB, 2 grey, 4 animation, 8 timecodes), extra channels, lent bytes of name, lent words of upsampling and of blending, input bytes

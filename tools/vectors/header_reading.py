@@ -1,6 +1,6 @@
 """The reader of frame headers that tools/vectors/header.py computes what is due with.
 
-Written from document 01 ("Bounds", "Refusal numbers", "Bits and numbers", "Header fields", "Filter fields") and the bundles of src/header.rs, going down their
+Written from the rules ("Bounds", "Refusal numbers", "Bits and numbers", "Header fields", "Filter fields") and the bundles of src/header.rs, going down their
 fields in order; nothing is taken from the Rattle code.
 """
 import struct

@@ -1,7 +1,7 @@
 #!/usr/bin/env python3
 """Writes crates/replay_order/stdin and stdout: the vectors of the crate `order`, and what is due for each.
 
-Run it at the project's root. What is due comes from document 01 ("Refusal numbers", "Sections"), by Python's own means: an order is
+Run it at the project's root. What is due comes from the rules ("Refusal numbers", "Sections"), by Python's own means: an order is
 `sorted(order) == list(range(count))`, its inverse is written section by section. Sources are named at each vector.
 """
 import pathlib
@@ -77,12 +77,12 @@ FAR = 4294967295
 
 def vectors():
     p5, p6 = [2, 0, 1, 3, 4], [0, 0, 1, 2, 3]
-    # document 01, P5: the order and its inverse 1, 2, 0, 3, 4, each number looked up in both
+    # P5: the order and its inverse 1, 2, 0, 3, 4, each number looked up in both
     for number in range(6):
         yield 0, 0, 5, 5, 5, number, p5
     # the inverse's own inverse is the order again
     yield 0, 0, 5, 5, 5, 0, [1, 2, 0, 3, 4]
-    # document 01, P6: 13
+    # P6: 13
     yield 0, 0, 5, 5, 5, 0, p6
     # no sections, one section, and one that isn't 0
     yield 0, 0, 0, 0, 0, 0, []

@@ -1,7 +1,7 @@
 #!/usr/bin/env python3
 """Writes crates/replay_toc/stdin and stdout: the vectors of the crate `toc`, and what is due for each.
 
-Run it at the project's root. What is due comes from document 01 ("Refusal numbers", "Grid", "Sections"), by Python's own means: whole
+Run it at the project's root. What is due comes from the rules ("Refusal numbers", "Grid", "Sections"), by Python's own means: whole
 numbers without bounds, bits as a list, offsets by a running sum in sent order. Sources are named at each vector.
 """
 import pathlib
@@ -16,7 +16,7 @@ class Refused(Exception):
         self.number, self.place = number, place
 
 
-# ---- the frame: sizes and counts, document 01's "Grid"
+# ---- the frame: sizes and counts, as the rules for the grid have them
 
 def up(a, b):
     return -(-a // b)
@@ -59,7 +59,7 @@ class Grid:
         return self.kinds.index(kind)
 
 
-# ---- the table, document 01's "Sections"
+# ---- the table, as the rules for sections have it
 
 class Bits:
     def __init__(self, data, place):

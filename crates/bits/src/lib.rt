@@ -1,27 +1,20 @@
-// The bit reader: fields of up to 32 bits, Bool, U32, U64, f16, padding, skips and the extensions bundle, each read at a cursor
-// that keeps the first fault. A function given a cursor with a fault reads nothing and hands it on, so a bundle is straight-line code.
-// Every function is total: a cursor past the end, a width over 32 and a long slice have an answer too.
+// The bit reader: pieces of a field, fields of up to 32 bits, Bool and padding, each read at a cursor that keeps the first fault. A function
+// given a cursor with a fault reads nothing and hands it on, so a bundle is straight-line code. Every function is total: a cursor past the
+// end, a width over 32 and a long slice have an answer too.
 mod fields;
-mod halves;
-mod numbers;
 mod pieces;
-mod skips;
 
+pub use fields::idle;
 pub use fields::read_bits;
 pub use fields::read_bits_if;
 pub use fields::read_bool;
 pub use fields::read_bool_if;
 pub use fields::zero_pad_to_byte;
-pub use halves::f16_to_f32;
-pub use halves::read_f16_if;
-pub use numbers::read_enum_if;
-pub use numbers::read_u32;
-pub use numbers::read_u32_if;
-pub use numbers::read_u64;
-pub use numbers::read_u64_if;
-pub use numbers::unpack_signed;
-pub use skips::read_extensions_if;
-pub use skips::skip_bits_if;
+pub use pieces::Piece;
+pub use pieces::bit_count;
+pub use pieces::refused_at;
+pub use pieces::stop;
+pub use pieces::take;
 ghost use mathlib.Core.Path.{_≡_};
 ghost use mathlib.Core.Bool.{_&&_, _||_};
 ghost use Rattle.bits.specs.Refusals.{refusal, none, start};
@@ -82,23 +75,15 @@ pub fn refused(number: u32, place: u64) -> Refusal
 pub fn accepted() -> Refusal
     ensures { λ r. ⌜ r ≡ none ⌝ }
 {
-    Refusal {
-        number: 0,
-        place: 0,
-    }
+    refused(0, 0)
 }
 
 // A cursor at a place, with no fault yet.
 pub fn begin(place: u64) -> Cursor
     ensures { λ r. ⌜ r ≡ start place ⌝ }
 {
-    Cursor {
-        at: place,
-        fault: Refusal {
-            number: 0,
-            place: 0,
-        },
-    }
+    let fault = accepted();
+    Cursor { at: place, fault }
 }
 
 // A constant as a choice of a U32.

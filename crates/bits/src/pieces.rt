@@ -105,9 +105,6 @@ pub fn refused_at(number: u32, p: u64) -> Field
 {
     Field {
         value: 0,
-        next: Cursor {
-            at: p,
-            fault: Refusal { number, place: p },
-        },
+        next: stop(number, p),
     }
 }

@@ -15,7 +15,7 @@ use lib.Ieee.Fits.{down-pos}
 use borrow.Author.Tests.{eqb-true, eqb-false}
 use Rattle.bits.specs.Refusals.{pick}
 use Rattle.bits.specs.Half.{negative, exponent, fraction, scaled, half}
-use Rattle.bits.proofs.Half.{half-exact}
+use Rattle.numbers.proofs.Half.{half-exact}
 use Rattle.filter.specs.Values.{pattern}
 
 -- the pattern by the sign and the size times 2^24

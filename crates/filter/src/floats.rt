@@ -13,8 +13,8 @@ pub struct FloatRead {
 pub fn read_float_if(s: &[u8], c: Cursor, on: bool, default: u32) -> FloatRead
     ensures { λ r. ⌜ r ≡ floatRead (field (now (s .entry)) on f16 default c) ⌝ }
 {
-    let h = bits::read_f16_if(s, c, on, default);
-    let value = bits::f16_to_f32(h.value);
+    let h = numbers::read_f16_if(s, c, on, default);
+    let value = numbers::f16_to_f32(h.value);
     let next = h.next;
     FloatRead { value, next }
 }

@@ -74,12 +74,12 @@ fn gabor_of(enabled: u32, own: u32, x: Channel, y: Channel, z: Channel) -> Gabor
 fn read_channel_if(s: &[u8], c: Cursor, on: bool) -> ChannelRead
     ensures { λ r. ⌜ r ≡ channelRead (read (channel on 0) (now (s .entry)) c) ⌝ }
 {
-    let a = bits::read_f16_if(s, c, on, 0);
-    let b = bits::read_f16_if(s, a.next, on, 0);
+    let a = numbers::read_f16_if(s, c, on, 0);
+    let b = numbers::read_f16_if(s, a.next, on, 0);
     let bad = is_unbalanced(a.value, b.value);
     let next = bits::refuse_if(b.next, bad, 7, 32);
-    let first = bits::f16_to_f32(a.value);
-    let second = bits::f16_to_f32(b.value);
+    let first = numbers::f16_to_f32(a.value);
+    let second = numbers::f16_to_f32(b.value);
     ChannelRead {
         value: Channel { first, second },
         next,

@@ -38,7 +38,7 @@ pub fn read_restoration_filter_if(s: &[u8], c: Cursor, on: bool, modular: bool) 
     let live = bits::both(on, all_default.value == 0);
     let g = read_gabor_if(s, all_default.next, live);
     let e = read_epf_if(s, g.next, live, modular);
-    let next = bits::read_extensions_if(s, e.next, live);
+    let next = numbers::read_extensions_if(s, e.next, live);
     let gab = g.value;
     let epf = e.value;
     FilterRead {

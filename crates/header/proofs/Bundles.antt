@@ -21,7 +21,7 @@ use Rattle.header.specs.declared.shape.Crop.{Crop}
 use Rattle.header.specs.declared.blending.Blending.{Blending}
 use Rattle.header.specs.declared.blending.Decider.{Decider}
 use Rattle.header.specs.declared.closing.Closing.{Closing}
-use Rattle.header.specs.Kinds.{flagged}
+use Rattle.types.specs.Types.{flagged}
 use Rattle.header.specs.Opening.{opening, upsamplings}
 use Rattle.header.specs.declared.shape.Passes.{Passes}
 use Rattle.header.specs.Arrays.{array, Arrayed}

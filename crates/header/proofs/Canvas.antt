@@ -11,7 +11,7 @@ use lib.Signed.{leZ}
 use borrow.Author.Tests.{eq-eqb, ne-eqb, le-leb, lt-leb, lt-ltb, le-ltb}
 use Rattle.bits.specs.Refusals.{pick}
 use Rattle.bits.specs.Codec.{signed}
-use Rattle.bits.proofs.Signed.{signed-even}
+use Rattle.numbers.proofs.Signed.{signed-even}
 use Rattle.header.specs.declared.Facts.{Facts}
 use Rattle.header.specs.declared.shape.Crop.{Crop}
 use Rattle.header.specs.declared.blending.Decider.{Decider}

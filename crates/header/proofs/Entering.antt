@@ -21,15 +21,15 @@ use Rattle.header.specs.declared.opening.Opening.{Opening}
 use Rattle.header.specs.declared.shape.Crop.{Crop}
 use Rattle.header.specs.declared.blending.Blending.{Blending}
 use Rattle.header.specs.declared.blending.BlendingInfo.{BlendingInfo}
-use Rattle.header.specs.declared.kinds.BlendMode.{BlendMode}
-use Rattle.header.specs.declared.kinds.FrameType.{FrameType}
-use Rattle.header.specs.declared.kinds.Encoding.{Encoding}
+use Rattle.types.specs.declared.BlendMode.{BlendMode}
+use Rattle.types.specs.declared.FrameType.{FrameType}
+use Rattle.types.specs.declared.Encoding.{Encoding}
 use Rattle.header.specs.declared.parts.Front.{Front}
 use Rattle.header.specs.declared.parts.Back.{Back}
 use Rattle.header.specs.declared.parts.FrontRead.{FrontRead}
 use Rattle.header.specs.declared.parts.BackRead.{BackRead}
 use Rattle.header.specs.declared.entry.HeaderAnswer.{HeaderAnswer}
-use Rattle.header.specs.Kinds.{frameType, encoding, blendMode}
+use Rattle.types.specs.Types.{frameType, encoding, blendMode}
 use Rattle.header.specs.Arrays.{array, Arrayed}
 use Rattle.header.specs.Opening.{upsamplings}
 use Rattle.header.specs.Blending.{coversImage, resets, byColour, words, extras, Extras}

@@ -3,3 +3,4 @@ pub mod Bundles
 pub mod Canvas
 pub mod Whole
 pub mod Entering
+pub mod Once

@@ -19,7 +19,7 @@ use Rattle.header.specs.declared.parts.Front.{Front}
 use Rattle.header.specs.declared.parts.FrontRead.{FrontRead}
 use Rattle.header.specs.declared.parts.Back.{Back}
 use Rattle.header.specs.declared.parts.BackRead.{BackRead}
-use Rattle.header.specs.Kinds.{flagged}
+use Rattle.types.specs.Types.{flagged}
 use Rattle.header.specs.Arrays.{array}
 use Rattle.header.specs.Opening.{opening, upsamplings}
 use Rattle.header.specs.Shape.{passes, quant, crop}

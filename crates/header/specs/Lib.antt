@@ -1,4 +1,3 @@
-pub mod Kinds
 pub mod Arrays
 pub mod Opening
 pub mod Shape

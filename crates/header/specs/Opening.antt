@@ -8,7 +8,7 @@ use Rattle.bits.specs.Table.{Table, Out, ends, row}
 use Rattle.header.specs.declared.Facts.{Facts}
 use Rattle.header.specs.declared.opening.Opening.{Opening}
 use Rattle.header.specs.declared.opening.OpeningRead.{OpeningRead}
-use Rattle.header.specs.Kinds.{flagged}
+use Rattle.types.specs.Types.{flagged}
 
 -- U32(1, 2, 4, 8)
 abbrev pub upsamplings : Choices

@@ -16,10 +16,10 @@ use Rattle.header.specs.declared.blending.BlendingInfo.{BlendingInfo}
 use Rattle.header.specs.declared.opening.Opening.{Opening}
 use Rattle.header.specs.declared.parts.Front.{Front}
 use Rattle.header.specs.declared.parts.Back.{Back}
-use Rattle.header.specs.declared.kinds.FrameType.the-variants.{RegularFrame}
-use Rattle.header.specs.declared.kinds.Encoding.the-variants.{VarDct}
-use Rattle.header.specs.declared.kinds.BlendMode.the-variants.{Replace}
-use Rattle.header.specs.Kinds.{frameType, encoding, blendMode, isNormal, isLf}
+use Rattle.types.specs.declared.FrameType.the-variants.{RegularFrame}
+use Rattle.types.specs.declared.Encoding.the-variants.{VarDct}
+use Rattle.types.specs.declared.BlendMode.the-variants.{Replace}
+use Rattle.types.specs.Types.{frameType, encoding, blendMode, isNormal, isLf}
 use Rattle.header.specs.Blending.{coversImage, resets}
 
 -- 1 for a grey Modular frame that is neither YCbCr nor XYB, else 3

@@ -4,7 +4,7 @@ use bits::Choices;
 use bits::Cursor;
 use bits::read_bits;
 use bits::read_bits_if;
-use bits::read_u32_if;
+use numbers::read_u32_if;
 ghost use mathlib.Core.Path.{_≡_};
 ghost use Prim.Native.Nat.{_<_};
 ghost use lib.ListN.{set};

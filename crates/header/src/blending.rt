@@ -1,7 +1,6 @@
 // The bundle `BlendingInfo`, of the colour channels and of each extra channel, and whether a frame resets the canvas.
 use crate::Facts;
 use crate::arrays::put;
-use crate::kinds::BlendMode;
 use crate::shape::Crop;
 use bits::Choice;
 use bits::Choices;
@@ -10,8 +9,9 @@ use bits::both;
 use bits::either;
 use bits::read_bits_if;
 use bits::read_bool_if;
-use bits::read_enum_if;
-use bits::read_u32_if;
+use numbers::read_enum_if;
+use numbers::read_u32_if;
+use types::BlendMode;
 ghost use mathlib.Core.Path.{_≡_};
 ghost use Prim.Native.Nat.{_*_, _≤_, _+_, _<_};
 ghost use Rattle.bits.specs.Table.{read};

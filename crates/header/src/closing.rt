@@ -9,7 +9,7 @@ use bits::both;
 use bits::either;
 use bits::read_bits_if;
 use bits::read_bool_if;
-use bits::read_u32_if;
+use numbers::read_u32_if;
 ghost use mathlib.Core.Path.{_≡_};
 ghost use Rattle.bits.specs.Table.{read};
 ghost use Rattle.header.specs.Closing.{durations, nameLengths, closing, closingRead};

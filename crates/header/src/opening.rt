@@ -1,14 +1,14 @@
 // The header's first fields: all_default to upsampling.
 use crate::Facts;
-use crate::kinds::FrameFlags;
 use bits::Choice;
 use bits::Choices;
 use bits::Cursor;
 use bits::both;
 use bits::read_bits_if;
 use bits::read_bool_if;
-use bits::read_u32_if;
-use bits::read_u64_if;
+use numbers::read_u32_if;
+use numbers::read_u64_if;
+use types::FrameFlags;
 ghost use mathlib.Core.Path.{_≡_};
 ghost use Rattle.bits.specs.Table.{read};
 ghost use Rattle.header.specs.Opening.{opening, openingRead, upsamplings};

@@ -10,7 +10,7 @@ use bits::Cursor;
 use bits::both;
 use bits::read_bits_if;
 use bits::read_bool_if;
-use bits::read_u32_if;
+use numbers::read_u32_if;
 ghost use mathlib.Core.Path.{_≡_};
 ghost use Prim.Native.Nat.{_-_};
 ghost use Rattle.bits.specs.Refusals.{pick};

@@ -1,4 +1,4 @@
-// Orders of sections, document 01's "Sections": order[section] = sent number (the Rust's `original_to_bitstream`), and its
+// Orders of sections, as the rules for sections have them: order[section] = sent number (the Rust's `original_to_bitstream`), and its
 // inverse[sent number] = section (`bitstream_to_original`). What a lent order must be, its inverse, and the two kinds of number, which only
 // these two tables turn into one another.
 ghost use mathlib.Core.Path.{_≡_};
@@ -158,7 +158,7 @@ pub fn invert(order: &[u32], count: u32, inverse: &mut [u32]) -> bits::Refusal
     refusal
 }
 
-// A word of an order table. Document 01 has every lent order judged whole, so this walks the table once: it takes no constant time.
+// A word of an order table. The rules have every lent order judged whole, so this walks the table once: it takes no constant time.
 fn look(table: &[u32], count: u32, index: u32) -> Entry
     ensures { λ r. ⌜ r ≡ entryAt (now (table .entry)) count index ⌝ }
 {

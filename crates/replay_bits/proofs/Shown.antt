@@ -15,7 +15,7 @@ use mir.Syntax.{w32, w64}
 use mir.Val.{SFits, Fits, toZ, ofZ}
 use mir.ValLaws.{toZ-ofZ}
 use Rattle.bits.specs.Half.{half, negative, scaled}
-use Rattle.bits.proofs.Half.{half-finite}
+use Rattle.numbers.proofs.Half.{half-finite}
 
 module _ (z : ℤ) (ok : SFits w32 z) where
   back : toZ w32 (ofZ w32 z) ≡ z

@@ -62,23 +62,23 @@ fn run_field(r: &[u8], s: &[u8], kind: u32, c: Cursor) {
     } else if kind == 1 {
         show_field(bits::read_bool_if(s, c, on, default));
     } else if kind == 2 {
-        show_field(bits::read_u32_if(s, c, on, choices(r), default));
+        show_field(numbers::read_u32_if(s, c, on, choices(r), default));
     } else if kind == 3 {
-        show_field(bits::read_enum_if(s, c, on, choices(r), n, default));
+        show_field(numbers::read_enum_if(s, c, on, choices(r), n, default));
     } else {
-        show_field(bits::read_f16_if(s, c, on, default));
+        show_field(numbers::read_f16_if(s, c, on, default));
     }
 }
 
 fn run_wide(r: &[u8], s: &[u8], c: Cursor) {
-    let w = bits::read_u64_if(s, c, replay::word(r, 4) == 1, long(r, 24));
+    let w = numbers::read_u64_if(s, c, replay::word(r, 4) == 1, long(r, 24));
     show(w.value);
     show_cursor(w.next);
 }
 
 // A number below 0 is shown as ~k for -1 - k.
 fn run_signed(n: u32) {
-    let z = bits::unpack_signed(n);
+    let z = numbers::unpack_signed(n);
     if z < 0 {
         io::write_all(1, b"~");
         io::print_decimal(1, (-1 - z) as u64);
@@ -89,7 +89,7 @@ fn run_signed(n: u32) {
 }
 
 fn run_half(h: u32) {
-    let x = bits::f16_to_f32(h);
+    let x = numbers::f16_to_f32(h);
     io::print_decimal(1, f32::to_bits(x) as u64);
     io::write_all(1, b"\n");
 }
@@ -99,7 +99,7 @@ fn run_cursor(r: &[u8], s: &[u8], kind: u32, c: Cursor) {
     if kind == 8 {
         show_cursor(bits::zero_pad_to_byte(s, c));
     } else if kind == 9 {
-        show_cursor(bits::skip_bits_if(
+        show_cursor(numbers::skip_bits_if(
             s,
             c,
             on,
@@ -109,7 +109,7 @@ fn run_cursor(r: &[u8], s: &[u8], kind: u32, c: Cursor) {
             },
         ));
     } else {
-        show_cursor(bits::read_extensions_if(s, c, on));
+        show_cursor(numbers::read_extensions_if(s, c, on));
     }
 }
 

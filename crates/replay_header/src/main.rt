@@ -4,15 +4,15 @@
 // lent for name, upsampling and blending, and how many input bytes follow. For the questions: a number, and 64 bits of flags.
 // A line: refusal, its place, the end, where nothing was refused every number of the record, all of them in one number, and one number
 // for each lent buffer, what was not lent of it too.
-use header::BlendMode;
 use header::BlendingInfo;
-use header::Encoding;
 use header::Facts;
-use header::FrameFlags;
 use header::FrameHeader;
-use header::FrameType;
 use header::HeaderAnswer;
 use header::Passes;
+use types::BlendMode;
+use types::Encoding;
+use types::FrameFlags;
+use types::FrameType;
 ghost use Prim.Native.Nat.{_≤_};
 
 fn main() {
@@ -242,9 +242,9 @@ fn filters(sum: u64, full: bool, gab: filter::Gabor, epf: filter::EdgePreserving
 
 fn questions(r: &[u8]) {
     let n = replay::word(r, 4);
-    let t = header::frame_type_of(n);
-    let e = header::encoding_of(n);
-    let m = header::blend_mode_of(n);
+    let t = types::frame_type_of(n);
+    let e = types::encoding_of(n);
+    let m = types::blend_mode_of(n);
     let seven = [
         frame_type(t),
         bit(t.is_normal_frame()),

@@ -223,20 +223,20 @@ fn show(t: toc::TocRead) {
     }
 }
 
-fn kind(k: u32, pass_idx: u32, group_idx: u32) -> toc::TocGroupKind {
+fn kind(k: u32, pass_idx: u32, group_idx: u32) -> kinds::TocGroupKind {
     if k == 0 {
-        return toc::TocGroupKind::All;
+        return kinds::TocGroupKind::All;
     }
     if k == 1 {
-        return toc::TocGroupKind::LfGlobal;
+        return kinds::TocGroupKind::LfGlobal;
     }
     if k == 2 {
-        return toc::TocGroupKind::LfGroup(group_idx);
+        return kinds::TocGroupKind::LfGroup(group_idx);
     }
     if k == 3 {
-        return toc::TocGroupKind::HfGlobal;
+        return kinds::TocGroupKind::HfGlobal;
     }
-    toc::TocGroupKind::GroupPass {
+    kinds::TocGroupKind::GroupPass {
         pass_idx,
         group_idx,
     }
@@ -249,15 +249,15 @@ fn find(r: &[u8], f: grid::Frame) {
         replay::word(r, 92),
         replay::word(r, 96),
     );
-    section(toc::section_of_kind(f, k));
-    let a = toc::kind_of(f, order::SectionNumber(replay::word(r, 72)));
+    section(kinds::section_of_kind(f, k));
+    let a = kinds::kind_of(f, order::SectionNumber(replay::word(r, 72)));
     let k = a.kind;
-    let n = toc::kind_numbers(k);
+    let n = kinds::kind_numbers(k);
     print(a.refusal.number as u64);
     print(n.kind as u64);
     print(n.pass_idx as u64);
     print(n.group_idx as u64);
-    section(toc::section_of_sample(
+    section(kinds::section_of_sample(
         f,
         replay::word(r, 76),
         replay::word(r, 80),
@@ -273,14 +273,14 @@ fn section(a: order::SectionAnswer) {
 // A section's offset and size, its sent number, and the section of a sent number.
 fn look(r: &[u8], f: grid::Frame, offsets: &[u64], sizes: &[u32], order: &[u32], inverse: &[u32]) {
     let n = replay::word(r, 72);
-    let p = toc::section_at(f, offsets, sizes, order::SectionNumber(n));
+    let p = kinds::section_at(f, offsets, sizes, order::SectionNumber(n));
     print(p.refusal.number as u64);
     print(p.offset);
     print(p.size as u64);
-    let t = toc::sent_of_section(f, order, order::SectionNumber(n));
+    let t = kinds::sent_of_section(f, order, order::SectionNumber(n));
     print(t.refusal.number as u64);
     print(t.sent.0 as u64);
-    section(toc::section_of_sent(f, inverse, order::SentNumber(n)));
+    section(kinds::section_of_sent(f, inverse, order::SentNumber(n)));
 }
 
 fn mixed(sum: u64, word: u64) -> u64 {

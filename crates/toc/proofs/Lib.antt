@@ -1,11 +1,7 @@
-pub mod Counts
-pub mod OfKinds
-pub mod KindsBack
 pub mod Walking
 pub mod Judging
 pub mod Filling
 pub mod Entering
-pub mod Asking
 pub mod Accepted
 pub mod Found
 pub mod Bytes

@@ -1,5 +1,3 @@
-pub mod Kinds
 pub mod Sizes
 pub mod Walks
 pub mod Reading
-pub mod Lookups

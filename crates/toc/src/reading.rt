@@ -76,7 +76,7 @@ fn read_size(s: &[u8], c: Cursor) -> Field
             bits: 30,
         },
     };
-    bits::read_u32(s, c, d)
+    numbers::read_u32(s, c, d)
 }
 
 // Padding, count sizes, padding: read and summed, nothing kept.

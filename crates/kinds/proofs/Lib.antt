@@ -1,0 +1,4 @@
+pub mod Counts
+pub mod OfKinds
+pub mod KindsBack
+pub mod Asking

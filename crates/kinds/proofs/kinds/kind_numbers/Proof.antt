@@ -1,0 +1,51 @@
+-- `kind_numbers`: each arm is told its constructor.
+use borrow.Author.Needs.{needs}
+use mathlib.Core.Path.{sym, ap}
+use Rattle.kinds.specs.Kinds.{numbersOf}
+use Rattle.kinds.proofs.kinds.kind_numbers.Statement.{statement}
+use Rattle.kinds.proofs.kinds.kind_numbers.Tie as tie
+
+enum-told : tie.Need-enum-told
+enum-told c = search needs
+
+enum-told-2 : tie.Need-enum-told-2
+enum-told-2 c = search needs
+
+enum-known-kind : tie.Need-enum-known-kind
+enum-known-kind c = search needs
+
+enum-told-3 : tie.Need-enum-told-3
+enum-told-3 c = search needs
+
+enum-known-kind-2 : tie.Need-enum-known-kind-2
+enum-known-kind-2 c = search needs
+
+returns : tie.Need-returns
+returns c = sym (ap numbersOf (c .enum-told .given .1))
+
+returns-2 : tie.Need-returns-2
+returns-2 c = sym (ap numbersOf (c .enum-told2 .given .1))
+
+returns-3 : tie.Need-returns-3
+returns-3 c = sym (ap numbersOf (c .before .kind .given .1))
+
+returns-4 : tie.Need-returns-4
+returns-4 c = sym (ap numbersOf (c .enum-told3 .given .1))
+
+returns-5 : tie.Need-returns-5
+returns-5 c = sym (ap numbersOf (c .before .kind2 .given .1))
+
+pub kind-numbers-spec : {M : Type 1} → statement M
+kind-numbers-spec =
+    tie.close
+    (tie.spec
+    enum-told
+    enum-told-2
+    enum-known-kind
+    enum-told-3
+    enum-known-kind-2
+    returns
+    returns-2
+    returns-3
+    returns-4
+    returns-5)

@@ -1,0 +1,59 @@
+-- `read_f16_if`: passed by, cut, exponent 31, or read.
+use borrow.Author.Needs.{needs}
+use mathlib.Core.Path.{refl, sym, _∙_}
+use Rattle.bits.specs.Codec.{f16}
+use Rattle.bits.proofs.Steps.{field-idle}
+use Rattle.bits.proofs.Codecs.{given, first-taken, first-cut, half-bad, half-good}
+use Rattle.numbers.proofs.halves.read_f16_if.Statement.{statement}
+use Rattle.numbers.proofs.halves.read_f16_if.Tie as tie
+
+idle-requires : tie.Need-idle-requires
+idle-requires c κs = search needs
+
+returns : tie.Need-returns
+returns c = sym (field-idle (c .before .before .before .args .s .now) _ _ _ _ _ (c .before .idle .ensures) (c .if1 .taken))
+
+take-requires : tie.Need-take-requires
+take-requires c κs = search needs
+
+refused-at-requires : tie.Need-refused-at-requires
+refused-at-requires c κs = search needs
+
+returns-2 : tie.Need-returns-2
+returns-2 c = c .refused-at .ensures ∙ first-cut (c .before .before .before .before .before .before .before .args .s .now) (c .before .before .before .before .before .before .before .args .on) f16 _ _ _ (c .before .before .before .before .before .idle .ensures) _ _ refl (c .before .before .before .before .if1 .left) _ (c .before .before .before .take .ensures) (c .before .if2 .taken)
+
+refused-at-requires-2 : tie.Need-refused-at-requires-2
+refused-at-requires-2 c κs = search needs
+
+begin-requires : tie.Need-begin-requires
+begin-requires c κs = search needs
+
+returns-3 : tie.Need-returns-3
+returns-3 c =
+    c .refused-at2 .ensures
+    ∙ sym (
+    first-taken (c .before .before .before .before .before .before .before .before .before .args .s .now) (c .before .before .before .before .before .before .before .before .before .args .on) f16 _ _ _ (c .before .before .before .before .before .before .before .idle .ensures) _ _ refl (c .before .before .before .before .before .before .if1 .left) _ (c .before .before .before .before .before .take .ensures) (c .before .before .before .if2 .left)
+    ∙ half-bad (c .before .before .before .before .before .before .before .before .before .args .s .now) _ (c .before .before .before .before .before .take .result .at) (c .before .before .before .before .before .take .result .value) (c .before .if3 .taken)
+    )
+
+returns-4 : tie.Need-returns-4
+returns-4 c =
+    given (c .before .before .before .before .before .before .before .before .before .args .s .now) (c .before .before .before .before .before .before .before .before .before .args .c .at) _ _ _ _ refl (c .begin .ensures)
+    ∙ sym (
+    first-taken (c .before .before .before .before .before .before .before .before .before .args .s .now) (c .before .before .before .before .before .before .before .before .before .args .on) f16 _ _ _ (c .before .before .before .before .before .before .before .idle .ensures) _ _ refl (c .before .before .before .before .before .before .if1 .left) _ (c .before .before .before .before .before .take .ensures) (c .before .before .before .if2 .left)
+    ∙ half-good (c .before .before .before .before .before .before .before .before .before .args .s .now) _ (c .before .before .before .before .before .take .result .at) (c .before .before .before .before .before .take .result .value) (c .before .if3 .left)
+    )
+
+pub read-f16-if-spec : {M : Type 1} → statement M
+read-f16-if-spec =
+    tie.close
+    (tie.spec
+    idle-requires
+    returns
+    take-requires
+    refused-at-requires
+    returns-2
+    refused-at-requires-2
+    begin-requires
+    returns-3
+    returns-4)

@@ -1,0 +1,69 @@
+-- `skip_bits_if`: passed by, past the end, or within it.
+use borrow.Author.Needs.{needs}
+use mathlib.Core.Path.{_≡_, refl, sym, _∙_, ap}
+use native.Mathlib.Omega.{arith}
+use Prim.Native.Nat.{ℕ, _+_, _*_, _^_, _<_, _≤_}
+use Rattle.bits.specs.declared.Field.{Field}
+use Rattle.bits.specs.Codec.{skip}
+use Rattle.bits.specs.Extensions.{whole}
+use Rattle.bits.specs.Bits.{bitCount}
+use Rattle.bits.proofs.Steps.{field-idle}
+use Rattle.bits.proofs.Codecs.{skip-cut, skip-goes}
+use Rattle.numbers.proofs.skips.skip_bits_if.Statement.{statement}
+use Rattle.numbers.proofs.skips.skip_bits_if.Tie as tie
+
+idle-requires : tie.Need-idle-requires
+idle-requires c κs = search needs
+
+returns : tie.Need-returns
+returns c = sym (ap (λ (f : Field). f .next) (field-idle (c .before .before .before .args .s .now) (c .before .before .before .args .on) (skip (whole (c .before .before .before .args .n))) 0 _ _ (c .before .idle .ensures) (c .if1 .taken)))
+
+bit-count-requires : tie.Need-bit-count-requires
+bit-count-requires c κs = search needs
+
+stop-requires : tie.Need-stop-requires
+stop-requires c κs = search needs
+
+returns-2 : tie.Need-returns-2
+returns-2 c = skip-cut (c .before .before .before .before .before .before .before .args .s .now) _ _ _ _ (c .before .before .before .before .before .idle .ensures) (c .before .before .before .before .if1 .left) _ (c .stop .ensures) (omega arith)
+
+stop-requires-2 : tie.Need-stop-requires-2
+stop-requires-2 c κs = search needs
+
+returns-3 : tie.Need-returns-3
+returns-3 c = skip-cut (c .before .before .before .before .before .before .before .before .args .s .now) _ _ _ _ (c .before .before .before .before .before .before .idle .ensures) (c .before .before .before .before .before .if1 .left) _ (c .stop2 .ensures) (omega (arith, c .before .before .before .before .bit-count .ensures, c .before .if3 .taken))
+
+stop-requires-3 : tie.Need-stop-requires-3
+stop-requires-3 c κs = search needs
+
+add-begin : tie.Need-add-begin
+add-begin c = search needs
+
+begin-requires : tie.Need-begin-requires
+begin-requires c κs = search needs
+
+returns-4 : tie.Need-returns-4
+returns-4 c = skip-cut (c .before .before .before .before .before .before .before .before .before .before .args .s .now) _ _ _ _ (c .before .before .before .before .before .before .before .before .idle .ensures) (c .before .before .before .before .before .before .before .if1 .left) _ (c .stop3 .ensures) (omega (arith, c .before .before .before .before .before .before .bit-count .ensures, c .before .if4 .taken))
+
+returns-5 : tie.Need-returns-5
+returns-5 c =
+    let none : c .before .before .before .before .before .before .before .before .before .before .before .args .n .high ≡ 0 = c .before .before .before .before .before .if2 .left in
+    let all : whole (c .before .before .before .before .before .before .before .before .before .before .before .args .n) ≡ c .before .before .before .before .before .before .before .before .before .before .before .args .n .low = omega (arith, none) in
+    skip-goes (c .before .before .before .before .before .before .before .before .before .before .before .args .s .now) _ _ _ _ (c .before .before .before .before .before .before .before .before .before .idle .ensures) (c .before .before .before .before .before .before .before .before .if1 .left) _ (c .begin .ensures ∙ rw all) (omega (arith, all, c .before .before .before .before .before .before .before .bit-count .ensures, c .before .before .if4 .left, c .before .before .before .before .if3 .left))
+
+pub skip-bits-if-spec : {M : Type 1} → statement M
+skip-bits-if-spec =
+    tie.close
+    (tie.spec
+    idle-requires
+    returns
+    bit-count-requires
+    stop-requires
+    returns-2
+    stop-requires-2
+    returns-3
+    stop-requires-3
+    add-begin
+    begin-requires
+    returns-4
+    returns-5)
