@@ -1,6 +1,6 @@
 -- `run_signed`: a number below 0 is shown by what stands past it.
 use borrow.Author.Needs.{needs}
-use Rattle.replay_bits.proofs.Shown.{past-fits, past-shown, shown}
+use Rattle.replay.proofs.Shown.{past-fits, past-shown, shown}
 use Rattle.replay_bits.proofs.run_signed.Statement.{statement}
 use Rattle.replay_bits.proofs.run_signed.Tie as tie
 
