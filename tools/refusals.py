@@ -5,7 +5,8 @@ leaves a log of each edit under target/must-fail/.
 For every row of a table of PROMISES.md whose last column names edits: each edit stands under must-fail/ of that crate, and each function of
 the first column is named as not proved by the logs of at least two of the row's edits (a function that rests on an edited one is not proved
 either, and counts). Every edit under must-fail/ stands in some row. An edit with a replacement in each of several functions is refused as soon
-as one of them is, so it names them (`refuses:`), and each has to be not proved by itself, not for resting on another.
+as one of them is, so it names them (`refuses:`), and each has to be not proved by itself, not for resting on another. No edit may be refused
+because a proof names a call or a branch that the edit took away: that would say nothing of what it computes.
 """
 import glob
 import os
@@ -53,6 +54,8 @@ def main():
         wanted = re.findall(r'^refuses: (.*)', open(path, encoding='utf-8').read(), re.M)
         log = f'target/must-fail/{crate}/{name[:-5]}/.log'
         text = open(log, encoding='utf-8').read() if os.path.exists(log) else ''
+        if re.search(r': error: .*(?:that can be named from here|has no field)', text):
+            wrong.append(f'{crate}/{name[:-5]}: refused at a name, not at a fact')
         for function in ' '.join(wanted).split():
             if not re.search(rf'^fn {crate}::(?:\w+::)*{function}: (?:not proved$|no proof: (?!.*it calls))', text, re.M):
                 wrong.append(f'{crate}/{name[:-5]}: {function} is not refused by itself')
