@@ -54,7 +54,8 @@ def main():
         wanted = re.findall(r'^refuses: (.*)', open(path, encoding='utf-8').read(), re.M)
         log = f'target/must-fail/{crate}/{name[:-5]}/.log'
         text = open(log, encoding='utf-8').read() if os.path.exists(log) else ''
-        if re.search(r': error: .*(?:that can be named from here|has no field)', text):
+        errors = [e for e in re.findall(r': error: (.*)', text) if 'was not admitted' not in e]
+        if errors and all(re.search('that can be named from here|has no field', e) for e in errors):
             wrong.append(f'{crate}/{name[:-5]}: refused at a name, not at a fact')
         for function in ' '.join(wanted).split():
             if not re.search(rf'^fn {crate}::(?:\w+::)*{function}: (?:not proved$|no proof: (?!.*it calls))', text, re.M):
