@@ -6,7 +6,7 @@ use native.Mathlib.Decide.{decLe}
 use mathlib.Core.Path.{_≡_, refl, sym, _∙_, ap, subst}
 use mathlib.Core.Logic.{by-cases}
 use mathlib.Core.List.{List, [], _∷_, _++_}
-use lib.ListN.{length, set, take, drop, replicate, length-set, length-drop, take-append-drop}
+use lib.ListN.{length, set, take, drop, replicate, length-append, length-set, length-drop, take-append-drop}
 use lib.Seq.{drop-at, set-split, take-set-le, take-take, length-take-le}
 use borrow.Author.Tests.{lt-ltb, le-ltb}
 use Rattle.decimal.specs.declared.Digits.{Digits}
@@ -65,6 +65,16 @@ decimal-more v d h g =
 pub decimal-large : (n : ℕ) → 10 ≤ n → decimal n ≡ decimal (n / 10) ++ ((48 + n % 10) ∷ [])
 unfolding decimal
 decimal-large n h = onto-large n [] h ∙ onto-is (n / 10) ((48 + n % 10) ∷ [])
+
+-- at most k digits below 10^k
+pub decimal-long : (k n : ℕ) → n < 10 ^ suc k → length (decimal n) ≤ suc k
+decimal-long zero n h = omega (arith, ap length (decimal-small n (omega arith)))
+decimal-long (suc k) n h =
+    by-cases (decLe (suc n) 10)
+    (λ y. omega (arith, ap length (decimal-small n y)))
+    (λ y.
+    let large : 10 ≤ n = omega (arith, y) in
+    omega (arith, ap length (decimal-large n large), length-append (decimal (n / 10)) ((48 + n % 10) ∷ []), decimal-long k (n / 10) (omega arith)))
 
 -- ---- the walk that writes from the end
 
