@@ -2,10 +2,13 @@
 use Prim.Native.Nat.{ℕ, _+_, _≤_, _<_}
 use native.Mathlib.Omega.{arith}
 use mathlib.Core.Path.{_≡_, refl, sym, _∙_, ap}
+use mathlib.Core.Logic.{by-cases}
+use native.Mathlib.Decide.{decLe}
 use mathlib.Core.Bool.{Bool, true, false, not, _&&_}
 use mathlib.Core.List.{List}
-use lib.Dec.{leb, ltb}
-use lib.ListN.{length, getD}
+use lib.Dec.{leb, ltb, eqb}
+use lib.ListN.{length, getD, take, length-take}
+use lib.Seq.{sets, length-sets}
 use borrow.Author.Tests.{eq-eqb, ne-eqb, le-leb, lt-leb, not-true, not-false}
 use Rattle.bits.specs.declared.Refusal.{Refusal}
 use Rattle.bits.specs.Refusals.{pick, refusal, none}
@@ -125,3 +128,20 @@ module _ (f : Frame) (g : Grid) (m : g ≡ gridOf f) (offsets sizes order out : 
             let clear : q ≡ none = e ∙ checked-none (g .sections) order (sym (ap (λ (x : Refusal). x .number) e) ∙ y) in
             texted-yes (listingRefusal f offsets sizes order out) (listing f offsets sizes order) out a (sym clear ∙ is)
             (named (ap (λ (x : Grid). listingText (x .sections) f offsets sizes order) m) w) ea
+
+-- a text that was written lies within the lent bytes
+put-size : (b : Bool) (text out : List ℕ) → length (pick b (sets out 0 text) out) ≡ length out
+put-size true text out = length-sets out 0 text
+put-size false text out = refl
+
+pub texted-within : {out' : List ℕ} (text out : List ℕ) (a : TextAnswer) → Texted (fitted text out) text out a out' → a .length ≤ length out'
+unfolding answerBy
+texted-within {out'} text out a w =
+    let is : a .length ≡ pick (eqb (fitted text out .number) 0) (length text) 0 = ap (λ (x : TextAnswer). x .length) (w .answer) in
+    let same : length out' ≡ length out = ap length (w .bytes) ∙ put-size (eqb (fitted text out .number) 0) text out in
+    by-cases (decLe (length text) (length out))
+    (λ y. let e : a .length ≡ length text = is ∙ rw (le-leb (length text) (length out) y) in omega (arith, y))
+    (λ y. let e : a .length ≡ 0 = is ∙ rw (lt-leb (length text) (length out) (omega (arith, y))) in omega arith)
+
+pub texted-part : {out' : List ℕ} (text out : List ℕ) (a : TextAnswer) → Texted (fitted text out) text out a out' → a .length ≡ length (take (a .length) out')
+texted-part {out'} text out a w = omega (arith, texted-within text out a w, length-take (a .length) out')
