@@ -1,0 +1,61 @@
+-- Laws of numbers, columns and names put as text.
+use Prim.Native.Nat.{ℕ, zero, suc, _+_, _-_, _≤_, _<_, _^_}
+use native.Mathlib.Omega.{arith}
+use mathlib.Core.Path.{_≡_, refl, sym, _∙_, ap}
+use mathlib.Core.Bool.{Bool, true, false}
+use mathlib.Core.List.{List, [], _∷_, _++_}
+use lib.ListN.{length, set, take, drop, replicate, length-replicate, length-append, length-take}
+use lib.Seq.{drop-at, take-all}
+use borrow.Author.Tests.{ne-eqb}
+use Rattle.decimal.specs.declared.Digits.{Digits}
+use Rattle.decimal.specs.Decimal.{decimal, digitsOf}
+use Rattle.decimal.proofs.Spelling.{decimal-long}
+use Rattle.listing.specs.Put.{Put}
+use Rattle.listing.specs.Text.{column, kindName}
+use Rattle.listing.proofs.Putting.{then, put-one, named}
+
+-- the digits at the end of their bytes
+module _ (n : ℕ) (d : Digits) (e : d ≡ digitsOf n) where
+  pub digits-start : d .start ≤ 20
+  unfolding digitsOf
+  digits-start = rw e (omega arith)
+
+  pub digits-size : n < 2 ^ 64 → length (d .bytes) ≡ 20
+  unfolding digitsOf
+  digits-size h =
+      let long : length (decimal n) ≤ 20 = decimal-long 19 n (omega arith) in
+      rw e (omega (arith, length-append (replicate (20 - length (decimal n)) 0) (decimal n), length-replicate {A = ℕ} (20 - length (decimal n)) 0))
+
+  pub digits-text : n < 2 ^ 64 → take (20 - d .start) (drop (d .start) (d .bytes)) ≡ decimal n
+  unfolding digitsOf
+  digits-text h =
+      let l = length (decimal n) in
+      let long : l ≤ 20 = decimal-long 19 n (omega arith) in
+      rw e
+      (ap (λ (t : List ℕ). take (20 - (20 - l)) t) (drop-at (replicate (20 - l) 0) (decimal n) (20 - l) (length-replicate (20 - l) 0))
+      ∙ take-all (20 - (20 - l)) (decimal n) (omega arith))
+
+pub column-dash : {l m : List ℕ} {i j : ℕ} (shown : Bool) (n : ℕ) → shown ≡ false → Put l i (9 ∷ 45 ∷ []) m j → Put l i (9 ∷ column shown n) m j × (j ≤ i + 21)
+unfolding column
+column-dash {l} {m} {i} {j} shown n h p = (named (ap (λ (x : List ℕ). 9 ∷ x) (sym (rw h))) p, omega (arith, p .behind))
+
+pub column-number : {l k : List ℕ} {i j : ℕ} (m : List ℕ) (shown : Bool) (n : ℕ) → shown ≡ true → m ≡ set l i 9 → Put m (i + 1) (decimal n) k j × (j ≤ i + 1 + 20)
+    → Put l i (9 ∷ column shown n) k j × (j ≤ i + 21)
+unfolding column
+column-number {l} {k} {i} {j} m shown n h e p =
+    (named (ap (λ (x : List ℕ). 9 ∷ x) (sym (rw h))) (then (put-one l m i 9 e) (p .0)), omega (arith, p .1))
+
+pub put-kind : {l m : List ℕ} {i j : ℕ} (kind k : ℕ) → kindName kind ≡ kindName k → length (kindName k) ≤ 9 → Put l i (9 ∷ kindName k) m j
+    → Put l i (9 ∷ kindName kind) m j × (j ≤ i + 10)
+put-kind kind k e h p = (named (ap (λ (x : List ℕ). 9 ∷ x) (sym e)) p, omega (arith, p .behind))
+
+pub last-kind : (kind : ℕ) → (kind ≡ 0 → ⊥) → (kind ≡ 1 → ⊥) → (kind ≡ 2 → ⊥) → (kind ≡ 3 → ⊥) → kindName kind ≡ kindName 4
+unfolding kindName
+last-kind kind a b c d = rw (ne-eqb kind 0 a, ne-eqb kind 1 b, ne-eqb kind 2 c, ne-eqb kind 3 d)
+
+-- a number's text is short
+pub part-small : (k : ℕ) (l : List ℕ) → length (take (20 - k) l) ≤ 4096
+part-small k l = omega (arith, length-take (20 - k) l)
+
+pub number-put : {l m : List ℕ} {i j : ℕ} (k n : ℕ) (t : List ℕ) → take (20 - k) t ≡ decimal n → Put l i (take (20 - k) t) m j → Put l i (decimal n) m j × (j ≤ i + 20)
+number-put {l} {m} {i} {j} k n t e p = (named e p, omega (arith, p .behind, length-take (20 - k) t))

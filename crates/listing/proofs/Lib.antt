@@ -1,0 +1,6 @@
+pub mod Putting
+pub mod Showing
+pub mod Columns
+pub mod Walks
+pub mod Texts
+pub mod Once

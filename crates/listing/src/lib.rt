@@ -1,0 +1,152 @@
+// The listing of a frame's sections as text, written into lent bytes: a heading, a line a section, the total; and the two lines that stand
+// for it where there is no table. Each is put twice by one walk: into no room, to know its length, and then into the lent bytes.
+mod put;
+mod rows;
+
+use bits::Refusal;
+use grid::Frame;
+use put::put_bytes;
+use put::put_column;
+use put::put_feed;
+use rows::put_rows;
+use rows::sum_sizes;
+ghost use mathlib.Core.Path.{_≡_};
+ghost use mathlib.Core.List.{[], _∷_};
+ghost use Prim.Native.Nat.{_≤_};
+ghost use lib.ListN.{length};
+ghost use Rattle.bits.specs.Refusals.{none};
+ghost use Rattle.listing.specs.Put.{Put, Texted, fitted, answerBy};
+ghost use Rattle.listing.specs.Text.{heading, totalText, refusedText, orderText};
+ghost use Rattle.listing.specs.Listed.{listing, listingText, listingRefusal};
+
+// How many bytes the text has, or why nothing was written (beside a refusal, 0).
+pub struct TextAnswer {
+    pub length: usize,
+    pub refusal: Refusal,
+}
+
+fn refused_text(refusal: Refusal) -> TextAnswer
+    ensures { λ r. ⌜ r ≡ record { length = 0; refusal = refusal } ⌝ }
+{
+    TextAnswer { length: 0, refusal }
+}
+
+fn whole_text(n: usize) -> TextAnswer
+    ensures { λ r. ⌜ r ≡ record { length = n; refusal = none } ⌝ }
+{
+    TextAnswer {
+        length: n,
+        refusal: bits::accepted(),
+    }
+}
+
+// `refused`, number, place.
+fn put_refused(out: &mut [u8], r: Refusal) -> usize
+    ensures { λ r'. ⌜ Put (now (out .entry)) 0 (refusedText r) (now (out .exit)) r' ⌝ }
+{
+    let a = put_bytes(out, 0, b"refused");
+    let b = put_column(out, a, true, r.number as u64);
+    let c = put_column(out, b, true, r.place);
+    put_feed(out, c)
+}
+
+// The line of a refusal; 3 where it doesn't fit.
+pub fn write_refused(r: Refusal, out: &mut [u8]) -> TextAnswer
+    ensures { λ a. ⌜ Texted (fitted (refusedText r) (now (out .entry))) (refusedText r) (now (out .entry)) a (now (out .exit)) ⌝ }
+{
+    let mut nowhere = [0u8; 1];
+    let length = put_refused(&mut nowhere, r);
+    if out.len() < length {
+        return refused_text(bits::refused(3, 0));
+    }
+    whole_text(put_refused(out, r))
+}
+
+// `order`, place.
+fn put_order(out: &mut [u8], place: u64) -> usize
+    ensures { λ r. ⌜ Put (now (out .entry)) 0 (orderText place) (now (out .exit)) r ⌝ }
+{
+    let a = put_bytes(out, 0, b"order");
+    let b = put_column(out, a, true, place);
+    put_feed(out, b)
+}
+
+// The line that says that the frame needs an order, with the place after its flag; 3 where it doesn't fit.
+pub fn write_order_needed(place: u64, out: &mut [u8]) -> TextAnswer
+    ensures { λ a. ⌜ Texted (fitted (orderText place) (now (out .entry))) (orderText place) (now (out .entry)) a (now (out .exit)) ⌝ }
+{
+    let mut nowhere = [0u8; 1];
+    let length = put_order(&mut nowhere, place);
+    if out.len() < length {
+        return refused_text(bits::refused(3, 0));
+    }
+    whole_text(put_order(out, place))
+}
+
+fn put_heading(out: &mut [u8]) -> usize
+    ensures { λ r. ⌜ Put (now (out .entry)) 0 heading (now (out .exit)) r ⌝ }
+{
+    put_bytes(
+        out,
+        0,
+        b"section\tkind\tpass\tgroup\tsent\toffset\tsize\tleft\ttop\twidth\theight\n",
+    )
+}
+
+fn put_total(out: &mut [u8], at: usize, total: u64) -> usize
+    requires { ⌜ at ≤ 1152921504606846976 ⌝ }
+    ensures { λ r. ⌜ Put (now (out .entry)) at (totalText total) (now (out .exit)) r ⌝ }
+{
+    let a = put_bytes(out, at, b"total");
+    let b = put_column(out, a, true, total);
+    put_feed(out, b)
+}
+
+// The whole listing, its sections as they stand in the tables.
+fn put_listing(
+    out: &mut [u8],
+    f: Frame,
+    count: u32,
+    offsets: &[u64],
+    sizes: &[u32],
+    order: &[u32],
+) -> usize
+    requires { ⌜ count ≤ 65536 ⌝ }
+    ensures { λ r. ⌜ Put (now (out .entry)) 0 (listingText count f (now (offsets .entry)) (now (sizes .entry)) (now (order .entry))) (now (out .exit)) r ⌝ }
+{
+    let a = put_heading(out);
+    let b = put_rows(out, a, f, count, offsets, sizes, order);
+    put_total(out, b, sum_sizes(sizes, count))
+}
+
+// The listing of an accepted table: 8, 9, 10, then 3 where a table has too few words or the text doesn't fit, then 13.
+pub fn write_listing(
+    f: Frame,
+    offsets: &[u64],
+    sizes: &[u32],
+    order: &[u32],
+    out: &mut [u8],
+) -> TextAnswer
+    ensures { λ a. ⌜
+        Texted (listingRefusal f (now (offsets .entry)) (now (sizes .entry)) (now (order .entry)) (now (out .entry)))
+        (listing f (now (offsets .entry)) (now (sizes .entry)) (now (order .entry))) (now (out .entry)) a (now (out .exit))
+        ⌝ }
+{
+    let g = grid::measure(f);
+    let own = g.refusal;
+    if own.number != 0 {
+        return refused_text(own);
+    }
+    let n = g.sections as usize;
+    let mut nowhere = [0u8; 1];
+    let length = put_listing(&mut nowhere, f, g.sections, offsets, sizes, order);
+    let tables = bits::both(n <= offsets.len(), n <= sizes.len());
+    if !bits::both(tables, length <= out.len()) {
+        return refused_text(bits::refused(3, 0));
+    }
+    let bad = order::check_order(order, g.sections);
+    if bad.number != 0 {
+        return refused_text(bad);
+    }
+    whole_text(put_listing(out, f, g.sections, offsets, sizes, order))
+}

@@ -1,0 +1,81 @@
+// Bytes, numbers and columns put into lent bytes from an index on. A place that the bytes haven't is passed over, so that the same walk
+// serves to measure, on bytes that are too few, and to write. Each answers the index behind what it put.
+ghost use mathlib.Core.Path.{_≡_};
+ghost use mathlib.Core.List.{[], _∷_};
+ghost use Prim.Native.Nat.{_+_, _≤_};
+ghost use lib.ListN.{length, set};
+ghost use Rattle.decimal.specs.Decimal.{decimal};
+ghost use Rattle.listing.specs.Put.{Put};
+ghost use Rattle.listing.specs.Text.{column, kindName};
+
+fn put(out: &mut [u8], at: usize, b: u8)
+    ensures { λ _. ⌜ now (out .exit) ≡ set (now (out .entry)) at b ⌝ }
+{
+    if at < out.len() {
+        out[at] = b;
+    }
+}
+
+pub fn put_bytes(out: &mut [u8], at: usize, text: &[u8]) -> usize
+    requires { ⌜ at ≤ 4611686018427387904 ⌝ }
+    requires { ⌜ length (now text) ≤ 4096 ⌝ }
+    ensures { λ r. ⌜ Put (now (out .entry)) at (now (text .entry)) (now (out .exit)) r ⌝ }
+{
+    let mut i: usize = 0;
+    while i < text.len() {
+        put(out, at + i, text[i]);
+        i += 1;
+    }
+    at + i
+}
+
+// The line feed that ends a line.
+pub fn put_feed(out: &mut [u8], at: usize) -> usize
+    requires { ⌜ at ≤ 4611686018427387904 ⌝ }
+    ensures { λ r. ⌜ Put (now (out .entry)) at (10 ∷ []) (now (out .exit)) r ⌝ }
+{
+    put(out, at, 10);
+    at + 1
+}
+
+pub fn put_number(out: &mut [u8], at: usize, n: u64) -> usize
+    requires { ⌜ at ≤ 4611686018427387904 ⌝ }
+    ensures { λ r. ⌜ Put (now (out .entry)) at (decimal n) (now (out .exit)) r × (r ≤ at + 20) ⌝ }
+{
+    let d = decimal::write_number(n);
+    let bytes = d.bytes;
+    let start = d.start;
+    put_bytes(out, at, &bytes[start..])
+}
+
+// A tab, and a number or `-`.
+pub fn put_column(out: &mut [u8], at: usize, shown: bool, n: u64) -> usize
+    requires { ⌜ at ≤ 2305843009213693952 ⌝ }
+    ensures { λ r. ⌜ Put (now (out .entry)) at (9 ∷ column shown n) (now (out .exit)) r × (r ≤ at + 21) ⌝ }
+{
+    if !shown {
+        return put_bytes(out, at, b"\t-");
+    }
+    put(out, at, 9);
+    put_number(out, at + 1, n)
+}
+
+// A tab, and a kind by its name.
+pub fn put_name(out: &mut [u8], at: usize, kind: u32) -> usize
+    requires { ⌜ at ≤ 2305843009213693952 ⌝ }
+    ensures { λ r. ⌜ Put (now (out .entry)) at (9 ∷ kindName kind) (now (out .exit)) r × (r ≤ at + 10) ⌝ }
+{
+    if kind == 0 {
+        return put_bytes(out, at, b"\tAll");
+    }
+    if kind == 1 {
+        return put_bytes(out, at, b"\tLfGlobal");
+    }
+    if kind == 2 {
+        return put_bytes(out, at, b"\tLfGroup");
+    }
+    if kind == 3 {
+        return put_bytes(out, at, b"\tHfGlobal");
+    }
+    put_bytes(out, at, b"\tGroupPass")
+}

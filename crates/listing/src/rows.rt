@@ -1,0 +1,179 @@
+// A section's line: what it shows, and how it is put.
+use crate::put::put_column;
+use crate::put::put_feed;
+use crate::put::put_name;
+use crate::put::put_number;
+use grid::Frame;
+use grid::Rect;
+use kinds::KindNumbers;
+use order::SectionNumber;
+ghost use mathlib.Core.Path.{_≡_};
+ghost use Prim.Native.Nat.{_+_, _*_, _≤_};
+ghost use lib.ListN.{getD};
+ghost use Rattle.bits.specs.Refusals.{pick};
+ghost use Rattle.grid.specs.Measured.{gridOf};
+ghost use Rattle.order.specs.Sums.{sumTo};
+ghost use Rattle.listing.specs.Put.{Put};
+ghost use Rattle.listing.specs.Text.{rectText, rowText, rowsFrom, hasPass, hasGroup, hasRect};
+ghost use Rattle.listing.specs.Listed.{rectBy, rowAt};
+
+// What a line shows: a section's numbers, its kind as a number, 0 where a column has nothing.
+struct Row {
+    section: u32,
+    kind: u32,
+    pass_idx: u32,
+    group_idx: u32,
+    sent: u32,
+    offset: u64,
+    size: u32,
+    rect: Rect,
+}
+
+// A word of a table, 0 past its end.
+fn word(t: &[u32], i: u32) -> u32
+    ensures { λ r. ⌜ r ≡ getD (now (t .entry)) i 0 ⌝ }
+{
+    let at = i as usize;
+    if at < t.len() { t[at] } else { 0 }
+}
+
+fn long_word(t: &[u64], i: u32) -> u64
+    ensures { λ r. ⌜ r ≡ getD (now (t .entry)) i 0 ⌝ }
+{
+    let at = i as usize;
+    if at < t.len() { t[at] } else { 0 }
+}
+
+// The whole colour sample size.
+fn whole(f: Frame) -> Rect
+    ensures { λ r. ⌜ r ≡ record { left = 0; top = 0; width = gridOf f .width; height = gridOf f .height } ⌝ }
+{
+    let width = grid::color_sample_width(f);
+    let height = grid::color_sample_height(f);
+    Rect {
+        left: 0,
+        top: 0,
+        width: width.value,
+        height: height.value,
+    }
+}
+
+// The rectangle of a kind.
+fn rect_of(f: Frame, k: KindNumbers) -> Rect
+    ensures { λ r. ⌜ r ≡ rectBy (gridOf f) k ⌝ }
+{
+    if k.kind == 2 {
+        let lf = grid::lf_group_rect(f, k.group_idx);
+        return lf.rect;
+    }
+    if k.kind == 4 {
+        let group = grid::group_rect(f, k.group_idx);
+        return group.rect;
+    }
+    if k.kind == 0 {
+        return whole(f);
+    }
+    Rect {
+        left: 0,
+        top: 0,
+        width: 0,
+        height: 0,
+    }
+}
+
+// What the listing shows of a section.
+fn row_at(f: Frame, offsets: &[u64], sizes: &[u32], order: &[u32], i: u32) -> Row
+    ensures { λ r. ⌜ r ≡ rowAt f (now (offsets .entry)) (now (sizes .entry)) (now (order .entry)) i ⌝ }
+{
+    let answer = kinds::kind_of(f, SectionNumber(i));
+    let kind = answer.kind;
+    let k = kinds::kind_numbers(kind);
+    let rect = rect_of(f, k);
+    let sent = word(order, i);
+    let offset = long_word(offsets, i);
+    let size = word(sizes, i);
+    Row {
+        section: i,
+        kind: k.kind,
+        pass_idx: k.pass_idx,
+        group_idx: k.group_idx,
+        sent,
+        offset,
+        size,
+        rect,
+    }
+}
+
+// The last four columns and the line feed.
+fn put_rect(out: &mut [u8], at: usize, shown: bool, r: Rect) -> usize
+    requires { ⌜ at ≤ 1152921504606846976 ⌝ }
+    ensures { λ n. ⌜ Put (now (out .entry)) at (rectText shown r) (now (out .exit)) n × (n ≤ at + 85) ⌝ }
+{
+    let a = put_column(out, at, shown, r.left as u64);
+    let b = put_column(out, a, shown, r.top as u64);
+    let c = put_column(out, b, shown, r.width as u64);
+    let d = put_column(out, c, shown, r.height as u64);
+    put_feed(out, d)
+}
+
+fn shows_group(kind: u32) -> bool
+    ensures { λ r. ⌜ r ≡ hasGroup kind ⌝ }
+{
+    bits::either(kind == 2, kind == 4)
+}
+
+fn put_row(out: &mut [u8], at: usize, r: Row) -> usize
+    requires { ⌜ at ≤ 576460752303423488 ⌝ }
+    ensures { λ n. ⌜ Put (now (out .entry)) at (rowText r) (now (out .exit)) n × (n ≤ at + 256) ⌝ }
+{
+    let rect = r.rect;
+    let grouped = shows_group(r.kind);
+    let a = put_number(out, at, r.section as u64);
+    let b = put_name(out, a, r.kind);
+    let c = put_column(out, b, r.kind == 4, r.pass_idx as u64);
+    let d = put_column(out, c, grouped, r.group_idx as u64);
+    let e = put_column(out, d, true, r.sent as u64);
+    let f = put_column(out, e, true, r.offset);
+    let g = put_column(out, f, true, r.size as u64);
+    put_rect(out, g, bits::either(r.kind == 0, grouped), rect)
+}
+
+// A line for each section, in the order of their numbers.
+pub fn put_rows(
+    out: &mut [u8],
+    at: usize,
+    f: Frame,
+    count: u32,
+    offsets: &[u64],
+    sizes: &[u32],
+    order: &[u32],
+) -> usize
+    requires { ⌜ (at ≤ 4096) × (count ≤ 65536) ⌝ }
+    ensures { λ n. ⌜
+        Put (now (out .entry)) at (rowsFrom (rowAt f (now (offsets .entry)) (now (sizes .entry)) (now (order .entry))) count 0) (now (out .exit)) n
+        × (n ≤ 16781312)
+        ⌝ }
+{
+    let mut end = at;
+    let mut i: u32 = 0;
+    while i < count {
+        let r = row_at(f, offsets, sizes, order, i);
+        end = put_row(out, end, r);
+        i += 1;
+    }
+    end
+}
+
+// The sum of the sections' sizes.
+pub fn sum_sizes(sizes: &[u32], count: u32) -> u64
+    requires { ⌜ count ≤ 65536 ⌝ }
+    ensures { λ r. ⌜ r ≡ sumTo count (λ i. getD (now (sizes .entry)) i 0) ⌝ }
+{
+    let mut total: u64 = 0;
+    let mut i: u32 = 0;
+    while i < count {
+        total += word(sizes, i) as u64;
+        i += 1;
+    }
+    total
+}
