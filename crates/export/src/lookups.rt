@@ -1,0 +1,257 @@
+// The look-ups from a kind, a sample, a section number and a sent number. A kind goes by its number: All 0, LfGlobal 1, LfGroup 2,
+// HfGlobal 3, GroupPass 4.
+use crate::answers::give;
+use crate::geometry::frame;
+use grid::Frame;
+use order::SectionAnswer;
+use order::SectionNumber;
+use order::SentAnswer;
+use order::SentNumber;
+use toc::KindAnswer;
+use toc::SectionPlace;
+use toc::TocGroupKind;
+ghost use mathlib.Core.Path.{_≡_};
+ghost use Rattle.toc.specs.Kinds.{kindOf};
+ghost use Rattle.toc.specs.Lookups.{sectionOfSample, placeOf, sentOfSection, sectionOfSent};
+ghost use Rattle.export.specs.Answers.{Given};
+ghost use Rattle.export.specs.Records.{frame, sectionNumber, sentNumber, kindNamed, sectionOfNumbers, sectionAnswer, sentAnswer, kindAnswer, placeAnswer};
+
+// A section number, as one word.
+fn give_section(a: SectionAnswer, out: &mut [u64]) -> u64
+    ensures { λ r. ⌜ Given (sectionAnswer a) (now (out .entry)) r (now (out .exit)) ⌝ }
+{
+    let number = a.section;
+    let words = [number.0 as u64];
+    give(a.refusal, &words, out)
+}
+
+// A sent number, as one word.
+fn give_sent(a: SentAnswer, out: &mut [u64]) -> u64
+    ensures { λ r. ⌜ Given (sentAnswer a) (now (out .entry)) r (now (out .exit)) ⌝ }
+{
+    let number = a.sent;
+    let words = [number.0 as u64];
+    give(a.refusal, &words, out)
+}
+
+// A kind, as three words: its number, pass and group (or LF group).
+fn give_kind(a: KindAnswer, out: &mut [u64]) -> u64
+    ensures { λ r. ⌜ Given (kindAnswer a) (now (out .entry)) r (now (out .exit)) ⌝ }
+{
+    let kind = a.kind;
+    let k = toc::kind_numbers(kind);
+    let words = [k.kind as u64, k.pass_idx as u64, k.group_idx as u64];
+    give(a.refusal, &words, out)
+}
+
+// Where a section lies, as two words: offset, size.
+fn give_place(a: SectionPlace, out: &mut [u64]) -> u64
+    ensures { λ r. ⌜ Given (placeAnswer a) (now (out .entry)) r (now (out .exit)) ⌝ }
+{
+    let words = [a.offset, a.size as u64];
+    give(a.refusal, &words, out)
+}
+
+// The kind that three numbers name; an unknown number names none.
+fn kind_named(kind: u32, pass_idx: u32, group_idx: u32) -> TocGroupKind
+    ensures { λ r. ⌜ r ≡ kindNamed kind «pass_idx» «group_idx» ⌝ }
+{
+    if kind == 1 {
+        return TocGroupKind::LfGlobal;
+    }
+    if kind == 2 {
+        return TocGroupKind::LfGroup(group_idx);
+    }
+    if kind == 3 {
+        return TocGroupKind::HfGlobal;
+    }
+    if kind == 4 {
+        return TocGroupKind::GroupPass {
+            pass_idx,
+            group_idx,
+        };
+    }
+    TocGroupKind::All
+}
+
+// The section of a kind that three numbers name: 8, 9, 10, then 14, for an unknown number too.
+fn section_named(f: Frame, kind: u32, pass_idx: u32, group_idx: u32) -> SectionAnswer
+    ensures { λ r. ⌜ r ≡ sectionOfNumbers f kind «pass_idx» «group_idx» ⌝ }
+{
+    if kind <= 4 {
+        return toc::section_of_kind(f, kind_named(kind, pass_idx, group_idx));
+    }
+    let g = grid::measure(f);
+    let own = g.refusal;
+    if own.number != 0 {
+        return SectionAnswer {
+            section: SectionNumber(0),
+            refusal: own,
+        };
+    }
+    SectionAnswer {
+        section: SectionNumber(0),
+        refusal: bits::refused(14, 0),
+    }
+}
+
+// A kind, by its number, pass and group, to its section number.
+#[no_mangle]
+pub extern "C" fn hingevale_section_of_kind(
+    width: u32,
+    height: u32,
+    upsampling: u32,
+    lf_level: u32,
+    group_size_shift: u32,
+    num_passes: u32,
+    kind: u32,
+    pass_idx: u32,
+    group_idx: u32,
+    out: &mut [u64],
+) -> u64
+    ensures { λ r. ⌜ Given (sectionAnswer (sectionOfNumbers (frame width height upsampling «lf_level» «group_size_shift» «num_passes») kind «pass_idx» «group_idx»)) (now (out .entry)) r (now (out .exit)) ⌝ }
+{
+    let f = frame(
+        width,
+        height,
+        upsampling,
+        lf_level,
+        group_size_shift,
+        num_passes,
+    );
+    give_section(section_named(f, kind, pass_idx, group_idx), out)
+}
+
+// A section number to its kind.
+#[no_mangle]
+pub extern "C" fn hingevale_kind_of(
+    width: u32,
+    height: u32,
+    upsampling: u32,
+    lf_level: u32,
+    group_size_shift: u32,
+    num_passes: u32,
+    section: u32,
+    out: &mut [u64],
+) -> u64
+    ensures { λ r. ⌜ Given (kindAnswer (kindOf (frame width height upsampling «lf_level» «group_size_shift» «num_passes») (sectionNumber section))) (now (out .entry)) r (now (out .exit)) ⌝ }
+{
+    let f = frame(
+        width,
+        height,
+        upsampling,
+        lf_level,
+        group_size_shift,
+        num_passes,
+    );
+    give_kind(toc::kind_of(f, SectionNumber(section)), out)
+}
+
+// A sample and a pass to their section number.
+#[no_mangle]
+pub extern "C" fn hingevale_section_of_sample(
+    width: u32,
+    height: u32,
+    upsampling: u32,
+    lf_level: u32,
+    group_size_shift: u32,
+    num_passes: u32,
+    x: u32,
+    y: u32,
+    pass: u32,
+    out: &mut [u64],
+) -> u64
+    ensures { λ r. ⌜ Given (sectionAnswer (sectionOfSample (frame width height upsampling «lf_level» «group_size_shift» «num_passes») x y pass)) (now (out .entry)) r (now (out .exit)) ⌝ }
+{
+    let f = frame(
+        width,
+        height,
+        upsampling,
+        lf_level,
+        group_size_shift,
+        num_passes,
+    );
+    give_section(toc::section_of_sample(f, x, y, pass), out)
+}
+
+// A section number to its offset and size, through tables that an entry filled.
+#[no_mangle]
+pub extern "C" fn hingevale_section_at(
+    width: u32,
+    height: u32,
+    upsampling: u32,
+    lf_level: u32,
+    group_size_shift: u32,
+    num_passes: u32,
+    offsets: &[u64],
+    sizes: &[u32],
+    section: u32,
+    out: &mut [u64],
+) -> u64
+    ensures { λ r. ⌜ Given (placeAnswer (placeOf (frame width height upsampling «lf_level» «group_size_shift» «num_passes») (now (offsets .entry)) (now (sizes .entry)) (sectionNumber section))) (now (out .entry)) r (now (out .exit)) ⌝ }
+{
+    let f = frame(
+        width,
+        height,
+        upsampling,
+        lf_level,
+        group_size_shift,
+        num_passes,
+    );
+    give_place(
+        toc::section_at(f, offsets, sizes, SectionNumber(section)),
+        out,
+    )
+}
+
+// A section number to its sent number, through the order.
+#[no_mangle]
+pub extern "C" fn hingevale_sent_of_section(
+    width: u32,
+    height: u32,
+    upsampling: u32,
+    lf_level: u32,
+    group_size_shift: u32,
+    num_passes: u32,
+    order: &[u32],
+    section: u32,
+    out: &mut [u64],
+) -> u64
+    ensures { λ r. ⌜ Given (sentAnswer (sentOfSection (frame width height upsampling «lf_level» «group_size_shift» «num_passes») (now (order .entry)) (sectionNumber section))) (now (out .entry)) r (now (out .exit)) ⌝ }
+{
+    let f = frame(
+        width,
+        height,
+        upsampling,
+        lf_level,
+        group_size_shift,
+        num_passes,
+    );
+    give_sent(toc::sent_of_section(f, order, SectionNumber(section)), out)
+}
+
+// A sent number to its section number, through the inverse.
+#[no_mangle]
+pub extern "C" fn hingevale_section_of_sent(
+    width: u32,
+    height: u32,
+    upsampling: u32,
+    lf_level: u32,
+    group_size_shift: u32,
+    num_passes: u32,
+    inverse: &[u32],
+    sent: u32,
+    out: &mut [u64],
+) -> u64
+    ensures { λ r. ⌜ Given (sectionAnswer (sectionOfSent (frame width height upsampling «lf_level» «group_size_shift» «num_passes») (now (inverse .entry)) (sentNumber sent))) (now (out .entry)) r (now (out .exit)) ⌝ }
+{
+    let f = frame(
+        width,
+        height,
+        upsampling,
+        lf_level,
+        group_size_shift,
+        num_passes,
+    );
+    give_section(toc::section_of_sent(f, inverse, SentNumber(sent)), out)
+}
