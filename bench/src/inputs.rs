@@ -35,7 +35,15 @@ impl Bits {
 }
 
 pub fn facts(width: u32, height: u32, extra: u32) -> Facts {
-    Facts { width, height, xyb: false, grey: false, extra, animation: true, timecodes: true }
+    Facts {
+        width,
+        height,
+        xyb: false,
+        grey: false,
+        extra,
+        animation: true,
+        timecodes: true,
+    }
 }
 
 /// A header with four extra channels, eight passes, a crop, a name of 40 bytes, own filter values and two extensions.
@@ -119,7 +127,14 @@ pub fn frame(sections: u32) -> Frame {
             groups -= 1;
         }
     }
-    Frame { width: groups * 128, height: 128, upsampling: 1, lf_level: 0, group_size_shift: 0, num_passes: 1 }
+    Frame {
+        width: groups * 128,
+        height: 128,
+        upsampling: 1,
+        lf_level: 0,
+        group_size_shift: 0,
+        num_passes: 1,
+    }
 }
 
 /// An order that isn't the identity: every number times an odd number that has no divisor in common with the count.
@@ -134,7 +149,9 @@ pub fn order(count: u32) -> Vec<u32> {
     while gcd(step, count as u64) != 1 {
         step += 1;
     }
-    (0..count as u64).map(|i| (i * step % count as u64) as u32).collect()
+    (0..count as u64)
+        .map(|i| (i * step % count as u64) as u32)
+        .collect()
 }
 
 /// A table of so many sizes of all four choices, at place 0: the flag, padding, sizes, padding.

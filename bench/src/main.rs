@@ -7,19 +7,26 @@ use hingevale::{Facts, Frame, Tables, TocRead};
 use jxl_bitstream::Bitstream;
 use jxl_frame::FrameHeader as TheirHeader;
 use jxl_frame::data::{Toc as TheirToc, TocGroupKind};
-use jxl_image::{AnimationHeader, BitDepth, ExtraChannelInfo, ImageHeader, ImageMetadata, SizeHeader};
+use jxl_image::{
+    AnimationHeader, BitDepth, ExtraChannelInfo, ImageHeader, ImageMetadata, SizeHeader,
+};
 use jxl_oxide_common::Bundle;
 use std::hint::black_box;
 use std::time::Instant;
 
 fn image(f: &Facts) -> ImageHeader {
     ImageHeader {
-        size: SizeHeader { width: f.width, height: f.height },
+        size: SizeHeader {
+            width: f.width,
+            height: f.height,
+        },
         metadata: ImageMetadata {
             xyb_encoded: f.xyb,
             grey: f.grey,
             ec_info: vec![ExtraChannelInfo; f.extra as usize],
-            animation: f.animation.then_some(AnimationHeader { have_timecodes: f.timecodes }),
+            animation: f.animation.then_some(AnimationHeader {
+                have_timecodes: f.timecodes,
+            }),
             bit_depth: BitDepth,
         },
     }
@@ -51,13 +58,23 @@ fn header_case(name: &str, bytes: Vec<u8>, f: Facts) -> Case {
         name: name.into(),
         runs: 20000,
         ours: Box::new(move || {
-            let (h, end) = hingevale::read_frame_header(black_box(&bytes), &f, &mut title, &mut upsampling, &mut blending).expect("accepted");
+            let (h, end) = hingevale::read_frame_header(
+                black_box(&bytes),
+                &f,
+                &mut title,
+                &mut upsampling,
+                &mut blending,
+            )
+            .expect("accepted");
             end + h.num_passes as u64 + h.name_length as u64 + h.width as u64
         }),
         theirs: Box::new(move || {
             let mut b = Bitstream::new(black_box(&input));
             let h = TheirHeader::parse(&mut b, &known).expect("accepted");
-            b.num_read_bits() as u64 + h.passes.num_passes as u64 + h.name.0.len() as u64 + h.width as u64
+            b.num_read_bits() as u64
+                + h.passes.num_passes as u64
+                + h.name.0.len() as u64
+                + h.width as u64
         }),
     }
 }
@@ -67,19 +84,34 @@ fn toc_case(count: u32, permuted: bool) -> Case {
     let count = hingevale::section_count(&f).expect("a frame");
     let (bytes, order) = (inputs::table(count, permuted), inputs::order(count));
     let n = count as usize;
-    let (mut offsets, mut sizes, mut sent, mut inverse) = (vec![0; n], vec![0; n], vec![0; n], vec![0; n]);
-    let (input, h, wide) = (bytes.clone(), their_header(&f), order.iter().map(|&x| x as usize).collect::<Vec<_>>());
+    let (mut offsets, mut sizes, mut sent, mut inverse) =
+        (vec![0; n], vec![0; n], vec![0; n], vec![0; n]);
+    let (input, h, wide) = (
+        bytes.clone(),
+        their_header(&f),
+        order.iter().map(|&x| x as usize).collect::<Vec<_>>(),
+    );
     Case {
-        name: format!("table of {count} sections{}", if permuted { ", permuted" } else { "" }),
+        name: format!(
+            "table of {count} sections{}",
+            if permuted { ", permuted" } else { "" }
+        ),
         runs: (2_000_000 / (count + 100)).max(20),
         ours: Box::new(move || {
-            let t = Tables { offsets: &mut offsets, sizes: &mut sizes, order: &mut sent, inverse: &mut inverse };
+            let t = Tables {
+                offsets: &mut offsets,
+                sizes: &mut sizes,
+                order: &mut sent,
+                inverse: &mut inverse,
+            };
             let read = if permuted {
                 hingevale::read_toc_with_order(black_box(&bytes), &f, 1, black_box(&order), t)
             } else {
                 hingevale::read_toc(black_box(&bytes), &f, 0, t)
             };
-            let TocRead::Table(toc) = read else { panic!("refused") };
+            let TocRead::Table(toc) = read else {
+                panic!("refused")
+            };
             toc.count as u64 + toc.bookmark + toc.total_byte_size
         }),
         theirs: Box::new(move || {
@@ -99,7 +131,8 @@ fn look_up_case() -> Case {
     let f = inputs::frame(65536);
     let count = hingevale::section_count(&f).expect("a frame");
     let h = their_header(&f);
-    let toc = TheirToc::parse(&mut Bitstream::new(&inputs::table(count, false)), &h).expect("accepted");
+    let toc =
+        TheirToc::parse(&mut Bitstream::new(&inputs::table(count, false)), &h).expect("accepted");
     let (mut x, mut u) = (0u32, 0u32);
     let width = f.width;
     Case {
@@ -111,15 +144,23 @@ fn look_up_case() -> Case {
         }),
         theirs: Box::new(move || {
             u = (u + 12347) % width;
-            let group_idx = black_box(&h).group_idx_from_coord(black_box(u), 77).expect("inside");
-            toc.group_index_bitstream_order(TocGroupKind::GroupPass { pass_idx: 0, group_idx }) as u64
+            let group_idx = black_box(&h)
+                .group_idx_from_coord(black_box(u), 77)
+                .expect("inside");
+            toc.group_index_bitstream_order(TocGroupKind::GroupPass {
+                pass_idx: 0,
+                group_idx,
+            }) as u64
         }),
     }
 }
 
 fn cases() -> Vec<Case> {
     let (rich, known) = inputs::rich();
-    let mut all = vec![header_case("header, all default", vec![1], inputs::facts(300, 100, 0)), header_case("header, rich", rich, known)];
+    let mut all = vec![
+        header_case("header, all default", vec![1], inputs::facts(300, 100, 0)),
+        header_case("header, rich", rich, known),
+    ];
     for count in [1, 100, 10000, 65536] {
         all.push(toc_case(count, false));
         all.push(toc_case(count, true));
@@ -155,7 +196,10 @@ fn main() {
         }
         return;
     }
-    println!("{:<40} {:>14} {:>14} {:>8}", "case", "proved, ns", "Rust, ns", "ratio");
+    println!(
+        "{:<40} {:>14} {:>14} {:>8}",
+        "case", "proved, ns", "Rust, ns", "ratio"
+    );
     for mut c in cases() {
         assert_eq!((c.ours)(), (c.theirs)(), "{}", c.name);
         let (a, b) = (time(c.runs, &mut c.ours), time(c.runs, &mut c.theirs));
