@@ -1,6 +1,5 @@
 -- Laws that several proofs cite.
-pub mod Filling
-pub mod Answering
 pub mod Asking
-pub mod Heads
-pub mod Tocs
+pub mod Listing
+pub mod Entering
+pub mod Shown

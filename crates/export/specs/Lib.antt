@@ -1,6 +1,1 @@
-pub mod Status
-pub mod Answers
-pub mod Records
-pub mod Contents
-pub mod Heading
 pub mod Asked

@@ -1,94 +1,14 @@
 // The geometry of a frame, over its six numbers: the grid and the questions on it.
-use crate::answers::give;
-use grid::Frame;
-use grid::Grid;
-use grid::Number;
-use grid::Placed;
-use grid::Rect;
-use grid::Touches;
-ghost use mathlib.Core.Path.{_≡_};
+use words::frame;
+use words::give_grid;
+use words::give_number;
+use words::give_rect;
+use words::give_touch;
+use words::region;
 ghost use Rattle.grid.specs.Measured.{gridOf};
 ghost use Rattle.grid.specs.Groups.{sampled, rectFor, lfIndexOf, indexFor, touchFor};
-ghost use Rattle.export.specs.Answers.{Given};
-ghost use Rattle.export.specs.Records.{frame, rect, numberAnswer, placedAnswer, touchAnswer, gridAnswer};
-
-// A frame out of its six numbers.
-pub fn frame(
-    width: u32,
-    height: u32,
-    upsampling: u32,
-    lf_level: u32,
-    group_size_shift: u32,
-    num_passes: u32,
-) -> Frame
-    ensures { λ r. ⌜ r ≡ frame width height upsampling «lf_level» «group_size_shift» «num_passes» ⌝ }
-{
-    Frame {
-        width,
-        height,
-        upsampling,
-        lf_level,
-        group_size_shift,
-        num_passes,
-    }
-}
-
-// A region out of its four numbers.
-fn region(left: u32, top: u32, width: u32, height: u32) -> Rect
-    ensures { λ r. ⌜ r ≡ rect left top width height ⌝ }
-{
-    Rect {
-        left,
-        top,
-        width,
-        height,
-    }
-}
-
-// A number, as one word.
-fn give_number(n: Number, out: &mut [u64]) -> u64
-    ensures { λ r. ⌜ Given (numberAnswer n) (now (out .entry)) r (now (out .exit)) ⌝ }
-{
-    let words = [n.value as u64];
-    give(n.refusal, &words, out)
-}
-
-// A rectangle, as four words: left, top, width, height.
-fn give_rect(p: Placed, out: &mut [u64]) -> u64
-    ensures { λ r. ⌜ Given (placedAnswer p) (now (out .entry)) r (now (out .exit)) ⌝ }
-{
-    let a = p.rect;
-    let words = [a.left as u64, a.top as u64, a.width as u64, a.height as u64];
-    give(p.refusal, &words, out)
-}
-
-// Yes or no, as one word: 1 or 0.
-fn give_touch(t: Touches, out: &mut [u64]) -> u64
-    ensures { λ r. ⌜ Given (touchAnswer t) (now (out .entry)) r (now (out .exit)) ⌝ }
-{
-    let words = [t.value as u64];
-    give(t.refusal, &words, out)
-}
-
-// A grid, as eleven words: the fields of `Grid` in their order.
-fn give_grid(g: Grid, out: &mut [u64]) -> u64
-    ensures { λ r. ⌜ Given (gridAnswer g) (now (out .entry)) r (now (out .exit)) ⌝ }
-{
-    let words = [
-        g.width as u64,
-        g.height as u64,
-        g.side as u64,
-        g.lf_side as u64,
-        g.columns as u64,
-        g.rows as u64,
-        g.lf_columns as u64,
-        g.lf_rows as u64,
-        g.groups as u64,
-        g.lf_groups as u64,
-        g.sections as u64,
-    ];
-    give(g.refusal, &words, out)
-}
+ghost use Rattle.words.specs.Answers.{Given};
+ghost use Rattle.words.specs.Records.{frame, rect, numberAnswer, placedAnswer, touchAnswer, gridAnswer};
 
 // The grid: colour sample size, sides, columns, rows and counts.
 #[no_mangle]

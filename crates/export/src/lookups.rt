@@ -1,99 +1,17 @@
 // The look-ups from a kind, a sample, a section number and a sent number. A kind goes by its number: All 0, LfGlobal 1, LfGroup 2,
 // HfGlobal 3, GroupPass 4.
-use crate::answers::give;
-use crate::geometry::frame;
-use grid::Frame;
-use order::SectionAnswer;
 use order::SectionNumber;
-use order::SentAnswer;
 use order::SentNumber;
-use toc::KindAnswer;
-use toc::SectionPlace;
-use toc::TocGroupKind;
-ghost use mathlib.Core.Path.{_≡_};
+use words::frame;
+use words::give_kind;
+use words::give_place;
+use words::give_section;
+use words::give_sent;
+use words::section_named;
 ghost use Rattle.toc.specs.Kinds.{kindOf};
 ghost use Rattle.toc.specs.Lookups.{sectionOfSample, placeOf, sentOfSection, sectionOfSent};
-ghost use Rattle.export.specs.Answers.{Given};
-ghost use Rattle.export.specs.Records.{frame, sectionNumber, sentNumber, kindNamed, sectionOfNumbers, sectionAnswer, sentAnswer, kindAnswer, placeAnswer};
-
-// A section number, as one word.
-fn give_section(a: SectionAnswer, out: &mut [u64]) -> u64
-    ensures { λ r. ⌜ Given (sectionAnswer a) (now (out .entry)) r (now (out .exit)) ⌝ }
-{
-    let number = a.section;
-    let words = [number.0 as u64];
-    give(a.refusal, &words, out)
-}
-
-// A sent number, as one word.
-fn give_sent(a: SentAnswer, out: &mut [u64]) -> u64
-    ensures { λ r. ⌜ Given (sentAnswer a) (now (out .entry)) r (now (out .exit)) ⌝ }
-{
-    let number = a.sent;
-    let words = [number.0 as u64];
-    give(a.refusal, &words, out)
-}
-
-// A kind, as three words: its number, pass and group (or LF group).
-fn give_kind(a: KindAnswer, out: &mut [u64]) -> u64
-    ensures { λ r. ⌜ Given (kindAnswer a) (now (out .entry)) r (now (out .exit)) ⌝ }
-{
-    let kind = a.kind;
-    let k = toc::kind_numbers(kind);
-    let words = [k.kind as u64, k.pass_idx as u64, k.group_idx as u64];
-    give(a.refusal, &words, out)
-}
-
-// Where a section lies, as two words: offset, size.
-fn give_place(a: SectionPlace, out: &mut [u64]) -> u64
-    ensures { λ r. ⌜ Given (placeAnswer a) (now (out .entry)) r (now (out .exit)) ⌝ }
-{
-    let words = [a.offset, a.size as u64];
-    give(a.refusal, &words, out)
-}
-
-// The kind that three numbers name; an unknown number names none.
-fn kind_named(kind: u32, pass_idx: u32, group_idx: u32) -> TocGroupKind
-    ensures { λ r. ⌜ r ≡ kindNamed kind «pass_idx» «group_idx» ⌝ }
-{
-    if kind == 1 {
-        return TocGroupKind::LfGlobal;
-    }
-    if kind == 2 {
-        return TocGroupKind::LfGroup(group_idx);
-    }
-    if kind == 3 {
-        return TocGroupKind::HfGlobal;
-    }
-    if kind == 4 {
-        return TocGroupKind::GroupPass {
-            pass_idx,
-            group_idx,
-        };
-    }
-    TocGroupKind::All
-}
-
-// The section of a kind that three numbers name: 8, 9, 10, then 14, for an unknown number too.
-fn section_named(f: Frame, kind: u32, pass_idx: u32, group_idx: u32) -> SectionAnswer
-    ensures { λ r. ⌜ r ≡ sectionOfNumbers f kind «pass_idx» «group_idx» ⌝ }
-{
-    if kind <= 4 {
-        return toc::section_of_kind(f, kind_named(kind, pass_idx, group_idx));
-    }
-    let g = grid::measure(f);
-    let own = g.refusal;
-    if own.number != 0 {
-        return SectionAnswer {
-            section: SectionNumber(0),
-            refusal: own,
-        };
-    }
-    SectionAnswer {
-        section: SectionNumber(0),
-        refusal: bits::refused(14, 0),
-    }
-}
+ghost use Rattle.words.specs.Answers.{Given};
+ghost use Rattle.words.specs.Records.{frame, sectionNumber, sentNumber, sectionOfNumbers, sectionAnswer, sentAnswer, kindAnswer, placeAnswer};
 
 // A kind, by its number, pass and group, to its section number.
 #[no_mangle]

@@ -1,7 +1,7 @@
 -- `hingevale_read_toc`: too few words, or the first entry.
 use borrow.Author.Needs.{needs}
 use Rattle.toc.specs.Reading.{tables, firstReading}
-use Rattle.export.proofs.Tocs.{listed-short, listed}
+use Rattle.export.proofs.Listing.{listed-short, listed}
 use Rattle.export.proofs.contents.hingevale_read_toc.Statement.{statement}
 use Rattle.export.proofs.contents.hingevale_read_toc.Tie as tie
 

@@ -1,7 +1,7 @@
 -- `hingevale_read_toc_with_order`: too few words, or the second entry.
 use borrow.Author.Needs.{needs}
 use Rattle.toc.specs.Reading.{tables, secondReading}
-use Rattle.export.proofs.Tocs.{listed-short, listed}
+use Rattle.export.proofs.Listing.{listed-short, listed}
 use Rattle.export.proofs.contents.hingevale_read_toc_with_order.Statement.{statement}
 use Rattle.export.proofs.contents.hingevale_read_toc_with_order.Tie as tie
 

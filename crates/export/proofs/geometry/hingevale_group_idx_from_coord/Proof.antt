@@ -2,7 +2,7 @@
 use borrow.Author.Needs.{needs}
 use Rattle.grid.specs.Measured.{gridOf}
 use Rattle.grid.specs.Groups.{indexFor}
-use Rattle.export.specs.Records.{numberAnswer}
+use Rattle.words.specs.Records.{numberAnswer}
 use Rattle.export.proofs.Asking.{asked}
 use Rattle.export.proofs.geometry.hingevale_group_idx_from_coord.Statement.{statement}
 use Rattle.export.proofs.geometry.hingevale_group_idx_from_coord.Tie as tie

@@ -1,7 +1,7 @@
 -- `hingevale_measure`: the grid of the six numbers.
 use borrow.Author.Needs.{needs}
 use Rattle.grid.specs.Measured.{gridOf}
-use Rattle.export.specs.Records.{gridAnswer}
+use Rattle.words.specs.Records.{gridAnswer}
 use Rattle.export.proofs.Asking.{asked}
 use Rattle.export.proofs.geometry.hingevale_measure.Statement.{statement}
 use Rattle.export.proofs.geometry.hingevale_measure.Tie as tie

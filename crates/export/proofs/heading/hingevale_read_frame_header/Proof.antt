@@ -1,8 +1,8 @@
 -- `hingevale_read_frame_header`: no room for the record, or the entry of the crate below.
 use borrow.Author.Needs.{needs}
 use borrow.Author.Tests.{not-true, not-false}
-use Rattle.export.specs.Heading.{facts, buffers}
-use Rattle.export.proofs.Heads.{head-short, head-read}
+use Rattle.words.specs.Heading.{facts, buffers}
+use Rattle.export.proofs.Entering.{head-short, head-read}
 use Rattle.export.proofs.heading.hingevale_read_frame_header.Statement.{statement}
 use Rattle.export.proofs.heading.hingevale_read_frame_header.Tie as tie
 

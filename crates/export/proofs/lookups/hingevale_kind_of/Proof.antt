@@ -1,7 +1,7 @@
 -- `hingevale_kind_of`: the crate below answers.
 use borrow.Author.Needs.{needs}
 use Rattle.toc.specs.Kinds.{kindOf}
-use Rattle.export.specs.Records.{kindAnswer, sectionNumber}
+use Rattle.words.specs.Records.{kindAnswer, sectionNumber}
 use Rattle.export.proofs.Asking.{asked}
 use Rattle.export.proofs.lookups.hingevale_kind_of.Statement.{statement}
 use Rattle.export.proofs.lookups.hingevale_kind_of.Tie as tie

@@ -1,7 +1,7 @@
 -- `hingevale_section_at`: the crate below answers.
 use borrow.Author.Needs.{needs}
 use Rattle.toc.specs.Lookups.{placeOf}
-use Rattle.export.specs.Records.{placeAnswer, sectionNumber}
+use Rattle.words.specs.Records.{placeAnswer, sectionNumber}
 use Rattle.export.proofs.Asking.{asked}
 use Rattle.export.proofs.lookups.hingevale_section_at.Statement.{statement}
 use Rattle.export.proofs.lookups.hingevale_section_at.Tie as tie

@@ -1,6 +1,6 @@
 -- `hingevale_section_of_kind`: the kind by its numbers.
 use borrow.Author.Needs.{needs}
-use Rattle.export.specs.Records.{sectionAnswer, sectionOfNumbers}
+use Rattle.words.specs.Records.{sectionAnswer, sectionOfNumbers}
 use Rattle.export.proofs.Asking.{asked}
 use Rattle.export.proofs.lookups.hingevale_section_of_kind.Statement.{statement}
 use Rattle.export.proofs.lookups.hingevale_section_of_kind.Tie as tie

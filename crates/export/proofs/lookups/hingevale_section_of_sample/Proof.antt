@@ -1,7 +1,7 @@
 -- `hingevale_section_of_sample`: the crate below answers.
 use borrow.Author.Needs.{needs}
 use Rattle.toc.specs.Lookups.{sectionOfSample}
-use Rattle.export.specs.Records.{sectionAnswer}
+use Rattle.words.specs.Records.{sectionAnswer}
 use Rattle.export.proofs.Asking.{asked}
 use Rattle.export.proofs.lookups.hingevale_section_of_sample.Statement.{statement}
 use Rattle.export.proofs.lookups.hingevale_section_of_sample.Tie as tie

@@ -1,7 +1,7 @@
 -- `hingevale_section_of_sent`: the crate below answers.
 use borrow.Author.Needs.{needs}
 use Rattle.toc.specs.Lookups.{sectionOfSent}
-use Rattle.export.specs.Records.{sectionAnswer, sentNumber}
+use Rattle.words.specs.Records.{sectionAnswer, sentNumber}
 use Rattle.export.proofs.Asking.{asked}
 use Rattle.export.proofs.lookups.hingevale_section_of_sent.Statement.{statement}
 use Rattle.export.proofs.lookups.hingevale_section_of_sent.Tie as tie

@@ -1,7 +1,7 @@
 -- `hingevale_sent_of_section`: the crate below answers.
 use borrow.Author.Needs.{needs}
 use Rattle.toc.specs.Lookups.{sentOfSection}
-use Rattle.export.specs.Records.{sentAnswer, sectionNumber}
+use Rattle.words.specs.Records.{sentAnswer, sectionNumber}
 use Rattle.export.proofs.Asking.{asked}
 use Rattle.export.proofs.lookups.hingevale_sent_of_section.Statement.{statement}
 use Rattle.export.proofs.lookups.hingevale_sent_of_section.Tie as tie

@@ -1,6 +1,6 @@
 -- `hingevale_can_reference`: the Rust's formula over the words.
 use borrow.Author.Needs.{needs}
-use Rattle.export.proofs.Tocs.{referable-is}
+use Rattle.export.proofs.Shown.{referable-is}
 use Rattle.export.proofs.questions.hingevale_can_reference.Statement.{statement}
 use Rattle.export.proofs.questions.hingevale_can_reference.Tie as tie
 

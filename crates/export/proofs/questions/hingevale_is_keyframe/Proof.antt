@@ -1,6 +1,6 @@
 -- `hingevale_is_keyframe`: the Rust's formula over the words.
 use borrow.Author.Needs.{needs}
-use Rattle.export.proofs.Tocs.{keyframe-is}
+use Rattle.export.proofs.Shown.{keyframe-is}
 use Rattle.export.proofs.questions.hingevale_is_keyframe.Statement.{statement}
 use Rattle.export.proofs.questions.hingevale_is_keyframe.Tie as tie
 
