@@ -3,7 +3,7 @@
 
 A promise is looked at as text: for the answer and for the final content of each lent `&mut` it has one equation whose right side speaks of what
 was passed alone (no answer, no final content), so that the law `once` (crates/bits/proofs/Once.antt) gives equality; or it is a record of such
-equations, for which a law named after it (`done-once` for `Done`) stands in the crate's proofs and is proved by `once`. Prints what it found, every
+equations, for which a law named after it (`done-once` for `Done`) stands in some crate's proofs and is proved by `once`. Prints what it found, every
 function for which neither holds, and every function that docs/PROMISES.md doesn't name.
 """
 import glob
@@ -57,12 +57,12 @@ def strip(text):
 
 def main():
     counts, wrong = {'one equation': 0, 'several equations': 0, 'a record with its law': 0}, []
+    laws = ''.join(open(p, encoding='utf-8').read() for p in glob.glob('crates/*/proofs/*.antt'))
     page = open('docs/PROMISES.md', encoding='utf-8').read()
     crates = [line.split(':')[0] for line in open('crates.txt') if re.match(r'\w+:', line)]
     for crate in crates:
         if not os.path.exists(f'crates/{crate}/src/lib.rt'):
             continue
-        laws = ''.join(open(p, encoding='utf-8').read() for p in glob.glob(f'crates/{crate}/proofs/*.antt'))
         for name, text in public(crate):
             if not re.search(rf'^\|[^|]*`{name}[`(]', page, re.M):
                 wrong.append(f'{crate}::{name}: not in docs/PROMISES.md')

@@ -1,0 +1,5 @@
+-- Laws that several proofs cite.
+pub mod Asking
+pub mod Listing
+pub mod Entering
+pub mod Shown

@@ -1,0 +1,5 @@
+pub mod Status
+pub mod Answers
+pub mod Records
+pub mod Contents
+pub mod Heading
