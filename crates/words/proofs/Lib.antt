@@ -4,3 +4,4 @@ pub mod Answering
 pub mod Wording
 pub mod Naming
 pub mod Recording
+pub mod Telling
