@@ -5,3 +5,4 @@ pub mod Wording
 pub mod Naming
 pub mod Recording
 pub mod Once
+pub mod Telling
