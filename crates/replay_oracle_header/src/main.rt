@@ -1,0 +1,6 @@
+// Runs the sample of the Rust's answers that oracle/compare wrote.
+fn main() {
+    let mut buf = [0u8; 262144];
+    let n = io::read_full(0, &mut buf);
+    run_header::run(&buf[..n]);
+}
