@@ -1,5 +1,5 @@
-// Runs the stored vectors of the grid: a record of 18 numbers in, a line of every function's answer out. What is due is computed by
-// tools/vectors/grid.py from document 01.
+// Runs stored vectors through the crate `grid`: a record of 18 numbers in, a line of every function's answer out. The numbers are the frame's six,
+// an upsampling, a group, a point and two rectangles.
 use bits::Refusal;
 use grid::Frame;
 use grid::Number;
