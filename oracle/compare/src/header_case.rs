@@ -2,7 +2,7 @@
 
 use crate::random::Random;
 use crate::theirs::{self, Headed};
-use crate::verdict::{Case, Verdict, class, due, hex, refused, ruled, same};
+use crate::verdict::{Case, Verdict, due, hex, refused, ruled, same};
 use crate::words::differ;
 use crate::write;
 use hingevale::{Facts, FrameHeader, Refusal};
@@ -70,7 +70,8 @@ fn compare(ours: &Result<(FrameHeader, u64), Refusal>, theirs: &Result<Headed, R
             same("end", *end, b.end)?;
             same("is_keyframe", a.is_keyframe(), b.answers[0])?;
             same("can_reference", a.can_reference(), b.answers[1])?;
-            questions(a.flags, &b.answers)
+            let flags = [a.noise(), a.patches(), a.splines(), a.use_lf_frame(), a.skip_adaptive_lf_smoothing()];
+            same("flag questions", &flags[..], &b.answers[2..])
         }
         (Err(a), Err(b)) => same("refusal", *a, *b),
         (Ok(_), Err(b)) => Err(format!("accepted, and the Rust {b:?}")),
@@ -78,9 +79,10 @@ fn compare(ours: &Result<(FrameHeader, u64), Refusal>, theirs: &Result<Headed, R
     }
 }
 
-/// The flag questions, of the proved reader's flags.
-fn questions(flags: u64, theirs: &[bool; 7]) -> Result<(), String> {
-    [1, 2, 16, 32, 128].iter().zip(&theirs[2..]).try_for_each(|(bit, b)| same("flag question", flags & bit != 0, *b))
+fn accepted(h: &Headed) -> String {
+    let kind = ["regular", "LF", "reference", "skip progressive"][h.header.frame_type as usize];
+    let name = if std::str::from_utf8(&h.name).is_err() { ", its name not UTF-8" } else { "" };
+    format!("both accept, {kind} frame{name}")
 }
 
 impl Case for HeaderCase {
@@ -104,10 +106,10 @@ impl Case for HeaderCase {
             Ok(h) => checked((&h.name, &h.upsampling, &h.blending))?,
             Err(_) => checked((&[], &[], &[]))?,
         }
-        match &theirs {
-            Ok(h) if std::str::from_utf8(&h.name).is_err() => Ok("both accept, a name that isn't UTF-8".into()),
-            _ => Ok(class(&theirs)),
-        }
+        Ok(match &theirs {
+            Err(r) => format!("both refuse, {}", r.number),
+            Ok(h) => accepted(h),
+        })
     }
 
     fn smaller(&self) -> Vec<Self> {
@@ -184,7 +186,11 @@ pub fn damaged(r: &mut Random) -> HeaderCase {
 pub fn random(r: &mut Random) -> HeaderCase {
     let n = if r.once_in(50) { r.within(60, 1400) } else { r.within(0, 60) } as usize;
     let f = facts(r);
-    let bytes = r.bytes(n);
+    let mut bytes = r.bytes(n);
+    if !r.once_in(8) {
+        // Not all default.
+        bytes.iter_mut().take(1).for_each(|b| *b &= 0xFE);
+    }
     HeaderCase::new(f, bytes).roomy(r)
 }
 

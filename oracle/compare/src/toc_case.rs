@@ -178,7 +178,11 @@ impl Case for TocCase {
             return Ok("outside, no flag before the order".into());
         }
         let lent = self.lent.as_ref().map(|(order, place)| (&order[..], *place));
-        let entry = if lent.is_some() { "with order" } else { "without" };
+        let entry = match &lent {
+            None => "no order lent",
+            Some((order, _)) if order.iter().enumerate().all(|(i, &n)| order.get(n as usize) == Some(&(i as u32))) => "an order lent that is its own inverse",
+            Some(_) => "an order lent that isn't its own inverse",
+        };
         match theirs::read_toc(&self.bytes, &header_of(&self.frame), self.flag, lent) {
             Read::Table(s) => {
                 same("answer", ours, TocRead::Table(s.toc))?;
@@ -288,7 +292,12 @@ pub fn random(r: &mut Random) -> TocCase {
         // Small sizes, so that some get to the end.
         bytes.iter_mut().skip(1).step_by(2).for_each(|b| *b &= 0xF0);
     }
-    let flag = r.below(16);
     let lent = r.coin().then(|| (r.order(count), r.below(8 * n as u64 + 2)));
+    let mut flag = r.below(16);
+    if lent.is_some() && n > 0 {
+        // The Rust asks for an order where the flag is 1.
+        flag = r.below(8 * n as u64);
+        bytes[flag as usize / 8] |= 1 << (flag % 8);
+    }
     TocCase { frame, bytes, flag, lent, room: tables(r, count as usize), asked: r.next() }
 }

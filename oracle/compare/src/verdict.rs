@@ -7,14 +7,6 @@ use std::fmt::Debug;
 /// `Ok` has the class it is counted under, `Err` the difference.
 pub type Verdict = Result<String, String>;
 
-/// The class of an answer that both sides gave.
-pub fn class<T>(answer: &Result<T, Refusal>) -> String {
-    match answer {
-        Ok(_) => "both accept".into(),
-        Err(r) => format!("both refuse, {}", r.number),
-    }
-}
-
 /// The class of a refusal that the rules add: the Rust isn't asked.
 pub fn ruled(number: u32) -> String {
     format!("outside, refused by the rules, {number}")
@@ -100,7 +92,9 @@ impl Tally {
                 println!("    {n:>10}  {class}");
             }
         }
-        println!("{} inputs, {} differences not known, {} known", self.inputs, self.differences, self.known);
+        let outside: u64 = self.kinds.values().flatten().filter(|(class, _)| class.starts_with("outside")).map(|(_, n)| n).sum();
+        println!("{} inputs: {} compared with the Rust, {outside} outside of the comparison", self.inputs, self.inputs - outside);
+        println!("{} differences not known, {} known", self.differences, self.known);
     }
 }
 
