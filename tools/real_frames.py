@@ -52,7 +52,7 @@ FILES += [('corner+groups0', 'large', '-d 0 -g 0 --group_order=1 --center_x=1 --
 FILES += [
     ('lf1', 'rgb', '-d 1 --progressive_dc=1'), ('lf2', 'large', '-d 1 --progressive_dc=2'),
     ('responsive', 'rgb', '-d 1 -m 1 -R 1'), ('noise', 'rgb', '-d 1 --photon_noise=ISO3200'), ('filters', 'rgb', '-d 1 --epf=3 --gaborish=0'), ('nofilter', 'rgb', '-d 1 --epf=0'),
-    ('half', 'alpha', '-d 1 --resampling=1 --ec_resampling=4'), ('quarter', 'alpha', '-d 1 --resampling=4 --ec_resampling=8'), ('eighth', 'large', '-d 1 --resampling=8'),
+    ('extra', 'alpha', '-d 1 --resampling=1 --ec_resampling=4'), ('quarter', 'alpha', '-d 1 --resampling=4 --ec_resampling=8'), ('eighth', 'large', '-d 1 --resampling=8'),
     ('grey', 'grey', '-d 0'), ('greylossy', 'grey', '-d 1'), ('greyalpha', 'greyalpha', '-d 0'), ('alpha', 'alpha', '-d 0 -g 0'), ('alphalossy', 'alpha', '-d 1'),
     ('boxed', 'alpha', '-d 0 --container=1'), ('tiny', 'tiny', '-d 0'), ('tinylossy', 'tiny', '-d 1'), ('line', 'line', '-d 0 -g 0'), ('linelossy', 'line', '-d 1'),
     ('icc', 'icc', '-d 0'), ('letters', 'letters', '-e 7 -d 1 --patches=1'), ('letters0', 'letters', '-e 7 -d 0 --patches=1'),
