@@ -1,7 +1,7 @@
 #!/usr/bin/env python3
 """Shows that the comparison would find a difference: each line below makes a copy of the Rust wrong in one place, and `compare` must say so.
 
-    python3 oracle/wrong.py          at the project's root, after `rt staticlib export`; some minutes
+    python3 oracle/wrong.py [WORDS]      after `rt staticlib export`; some minutes, or those alone whose line has the words
 
 The copies are made under target/wrong; nothing under oracle/ is changed.
 """
@@ -71,11 +71,12 @@ def found(file, old, new):
 def main():
     copy()
     missed = 0
-    for name, *change in WRONG:
+    chosen = [w for w in WRONG if not sys.argv[1:] or sys.argv[1] in w[0]]
+    for name, *change in chosen:
         ok, said = found(*change)
         missed += not ok
         print(f'{"found" if ok else "MISSED"}: {name}\n    {said[:200]}', flush=True)
-    print(f'{len(WRONG)} wrong copies, {missed} missed')
+    print(f'{len(chosen)} wrong copies, {missed} missed')
     return 1 if missed else 0
 
 

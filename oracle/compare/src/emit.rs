@@ -38,7 +38,7 @@ impl Pair {
         fs::create_dir_all(&home)?;
         fs::write(home.join("stdin"), &self.records)?;
         fs::write(home.join("stdout"), &self.lines)?;
-        println!("{name}: {} records, {} and {} bytes", self.count, self.records.len(), self.lines.len());
+        println!("{name}: {} answers, {} and {} bytes", self.count, self.records.len(), self.lines.len());
         Ok(())
     }
 }
@@ -94,13 +94,19 @@ fn flags(f: &Facts) -> u32 {
     f.xyb as u32 | (f.grey as u32) << 1 | (f.animation as u32) << 2 | (f.timecodes as u32) << 3
 }
 
-fn header(out: &mut Pair, c: &HeaderCase) {
+/// A run on the input, or where `cut` on each of its prefixes and then on the whole.
+fn header(out: &mut Pair, c: &HeaderCase, cut: bool) {
     let f = &c.facts;
     let lent = [c.lent[0], c.lent[1].min(260), c.lent[2].min(1030)].map(|n| n as u32);
-    let words = [0, f.width, f.height, flags(f), f.extra, lent[0], lent[1], lent[2], c.bytes.len() as u32, 0, 0, 0, 0, 0, 0, 0];
+    let words = [cut as u32, f.width, f.height, flags(f), f.extra, lent[0], lent[1], lent[2], c.bytes.len() as u32, 0, 0, 0, 0, 0, 0, 0];
     words.into_iter().for_each(|w| out.word(w));
     out.records.extend(&c.bytes);
-    let (mut cells, name, upsampling, blending) = match theirs::read_frame_header(&c.bytes, f) {
+    let first = if cut { 0 } else { c.bytes.len() };
+    (first..=c.bytes.len()).for_each(|n| header_line(out, f, &c.bytes[..n]));
+}
+
+fn header_line(out: &mut Pair, f: &Facts, bytes: &[u8]) {
+    let (mut cells, name, upsampling, blending) = match theirs::read_frame_header(bytes, f) {
         Ok(h) => {
             let numbers = shown(&h.header, &h.answers);
             let mut cells = vec![0, 0, h.end];
@@ -246,18 +252,18 @@ fn fill(limit: usize, mut one: impl FnMut(&mut Pair)) -> Pair {
 
 pub fn emit(folder: &str, seed: u64) -> std::io::Result<()> {
     let r = &mut Random::new(seed);
-    let headers = fill(130_000, |out| {
+    let headers = fill(65_000, |out| {
         let c = match r.below(4) {
             0 => header_case::written(r),
             1 => header_case::random(r),
             _ => header_case::damaged(r),
         };
         if c.bytes.len() <= 90 && c.facts.extra <= 20 {
-            header(out, &c);
+            header(out, &c, r.once_in(10));
         }
     });
     headers.store(folder, "header")?;
-    let tocs = fill(130_000, |out| {
+    let tocs = fill(65_300, |out| {
         let frame: Frame = frames::small(r);
         let permuted = r.coin();
         let mut c = match r.below(3) {

@@ -78,6 +78,17 @@ pub fn full(r: &mut Random) -> Frame {
     Frame { width: columns * side - r.within(0, side - 1), height: rows * side, upsampling: 1, lf_level: 0, group_size_shift: shift, num_passes: passes }
 }
 
+/// For each side and number of passes the longest row of groups that has no more than 65,536 sections, and the next one.
+pub fn brink() -> Vec<Frame> {
+    let mut out = Vec::new();
+    for (group_size_shift, num_passes) in (0..4).flat_map(|s| (1..12).map(move |p| (s, p))) {
+        let row = |columns: u32| Frame { width: columns * (128 << group_size_shift), height: 128, upsampling: 1, lf_level: 0, group_size_shift, num_passes };
+        let last = (1..65536).rev().find(|&c| counts(&row(c)).2 <= 65536).expect("a row that is short enough");
+        out.extend([row(last), row(last + 1)]);
+    }
+    out
+}
+
 /// Smaller records, for minimising.
 pub fn smaller(f: &Frame) -> Vec<Frame> {
     let half = |n: u32| [1.min(n), n / 2, n.saturating_sub(1)];

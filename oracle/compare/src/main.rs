@@ -107,12 +107,23 @@ fn long_inputs(t: &mut Tally, r: &mut Random) {
     }
 }
 
+/// Both sides of 65,536 sections; with one pass just that many and one more.
+fn on_the_brink(t: &mut Tally, r: &mut Random) {
+    for frame in frames::brink() {
+        for permuted in [false, true] {
+            t.take("on both sides of 65,536 sections", toc_case::good(r, frame, permuted));
+        }
+        (0..20).for_each(|_| t.take("on both sides of 65,536 sections", grid_case::about(r, frame)));
+    }
+}
+
 fn run(w: &Wanted) -> Tally {
     let mut t = Tally::default();
     let r = &mut Random::new(w.seed);
     short_headers(&mut t, w.three);
     short_tables(&mut t);
     long_inputs(&mut t, r);
+    on_the_brink(&mut t, r);
     let part = w.scale * 10_000;
     (0..12 * part).for_each(|_| t.take("headers, written", header_case::written(r)));
     (0..16 * part).for_each(|_| t.take("headers, damaged", header_case::damaged(r)));
