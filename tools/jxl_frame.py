@@ -19,7 +19,7 @@ sys.dont_write_bytecode = True
 from jxl_entropy import Refused, icc_profile
 
 USED = 32768                      # as many bytes of a frame as the listing program uses
-LISTING = pathlib.Path('target/bin/list')
+LISTING = pathlib.Path(__file__).resolve().parent.parent / 'target/bin/list'
 
 
 @dataclasses.dataclass
@@ -266,7 +266,7 @@ def main(words):
     if flags != ['--list']:
         sys.stdout.buffer.write(out)
     elif not LISTING.exists():
-        raise Refused(f'{LISTING} is not there: `rt check list` at the project\'s root makes it')
+        raise Refused('target/bin/list is not there: `rt check list` makes it')
     else:
         sys.exit(subprocess.run([LISTING], input=out).returncode)
 

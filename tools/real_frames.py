@@ -8,6 +8,7 @@ Every frame is read three times: by the proved reader and by the Rust files (ora
 by the Python of tools/vectors. Then: the first frame begins where the image's header ends; each frame after it begins where the data of
 the one before ends; the data of the last one ends where the codestream ends. Where a table has another order of sending, the order is
 decoded by tools/jxl_entropy.py, and where the same picture was also written without, each section has the same bytes in both files.
+Where the listing program is built (`rt check list`), its listing of each file's first frame is compared too.
 
 Needs cjxl (libjxl-tools), for `--store` nothing else; for the first form also a built oracle:
     rt staticlib export && cargo build --release --offline --manifest-path oracle/Cargo.toml
@@ -130,11 +131,18 @@ class Frame:
         return [[str(n) for n in line] for line in out]
 
 
+def up(a, b):
+    return -(-a // b)
+
+
+def samples(h):
+    """The colour sample size."""
+    return [up(up(h[k], h['upsampling']), 8 ** h['lf_level']) for k in ('width', 'height')]
+
+
 def kinds(h):
     """Number, pass and group of each section."""
-    def up(a, b):
-        return -(-a // b)
-    width, height = (up(up(h[k], h['upsampling']), 8 ** h['lf_level']) for k in ('width', 'height'))
+    width, height = samples(h)
     side, passes = 128 << h['group_size_shift'], h['passes'][0]
     groups, lf = (up(width, n) * up(height, n) for n in (side, 8 * side))
     if groups == passes == 1:
@@ -170,8 +178,30 @@ def asked(frame):
     return run(str(frame.place), ','.join(map(str, frame.order)))
 
 
+def listing(frame):
+    """What the listing program has to write of a frame."""
+    if frame.order is not None:
+        return f'order\t{frame.end + 1}\n'
+    width, height = samples(frame.header)
+
+    def rect(side, i):
+        left, top = i % up(width, side) * side, i // up(width, side) * side
+        return [left, top, min(side, width - left), min(side, height - top)]
+    side = 128 << frame.header['group_size_shift']
+    rows = ['section kind pass group sent offset size left top width height'.split()]
+    for i, (section, words) in enumerate(zip(frame.sections, frame.lines()[2:])):
+        kind, _, group = section[:3]
+        place = {0: [0, 0, width, height], 2: rect(8 * side, group), 4: rect(side, group)}.get(kind, ['-'] * 4)
+        rows.append([i, *words, *place])
+    rows.append(['total', frame.total])
+    return ''.join('\t'.join(map(str, row)) + '\n' for row in rows)
+
+
 def check(path):
     read = frames(path)
+    if jxl_frame.LISTING.exists():
+        done = subprocess.run([sys.executable, HOME / 'tools/jxl_frame.py', '--list', path], capture_output=True, text=True)
+        want(done.stdout == listing(read[0]), f'another listing: {done.stdout[:300]} {done.stderr[:300]}')
     for frame in read:
         got, due = asked(frame), frame.lines()
         for a, b in zip(got, due):
