@@ -1,0 +1,225 @@
+//! A slice that is too short for a record is 3 in its turn, and nothing lent is changed. The wrapper always lends enough, so the C functions are
+//! called here themselves.
+extern "C" {
+    fn hingevale_group_rect(
+        width: u32,
+        height: u32,
+        upsampling: u32,
+        lf_level: u32,
+        group_size_shift: u32,
+        num_passes: u32,
+        group_idx: u32,
+        out: *mut u64,
+        out_len: usize,
+    ) -> u64;
+    fn hingevale_sent_of_section(
+        width: u32,
+        height: u32,
+        upsampling: u32,
+        lf_level: u32,
+        group_size_shift: u32,
+        num_passes: u32,
+        order: *const u32,
+        order_len: usize,
+        section: u32,
+        out: *mut u64,
+        out_len: usize,
+    ) -> u64;
+    fn hingevale_section_of_kind(
+        width: u32,
+        height: u32,
+        upsampling: u32,
+        lf_level: u32,
+        group_size_shift: u32,
+        num_passes: u32,
+        kind: u32,
+        pass_idx: u32,
+        group_idx: u32,
+        out: *mut u64,
+        out_len: usize,
+    ) -> u64;
+    fn hingevale_read_toc(
+        s: *const u8,
+        s_len: usize,
+        width: u32,
+        height: u32,
+        upsampling: u32,
+        lf_level: u32,
+        group_size_shift: u32,
+        num_passes: u32,
+        place: u64,
+        offsets: *mut u64,
+        offsets_len: usize,
+        sizes: *mut u32,
+        sizes_len: usize,
+        order: *mut u32,
+        order_len: usize,
+        inverse: *mut u32,
+        inverse_len: usize,
+        out: *mut u64,
+        out_len: usize,
+    ) -> u64;
+    fn hingevale_read_frame_header(
+        s: *const u8,
+        s_len: usize,
+        width: u32,
+        height: u32,
+        xyb: bool,
+        grey: bool,
+        extra: u32,
+        animation: bool,
+        timecodes: bool,
+        name: *mut u8,
+        name_len: usize,
+        upsampling: *mut u32,
+        upsampling_len: usize,
+        blending: *mut u32,
+        blending_len: usize,
+        words: *mut u64,
+        words_len: usize,
+        signed: *mut i32,
+        signed_len: usize,
+        floats: *mut f32,
+        floats_len: usize,
+    ) -> u64;
+}
+
+// The wrapper is named so that its library is linked.
+use hingevale as _;
+
+#[test]
+fn a_rectangle() {
+    let mut out = [5u64; 4];
+    let mut ask = |width, upsampling, group, n| unsafe {
+        hingevale_group_rect(width, 100, upsampling, 0, 0, 1, group, out.as_mut_ptr(), n)
+    };
+    assert_eq!(ask(300, 3, 0, 3), 8);
+    assert_eq!(ask(0, 1, 0, 3), 9);
+    assert_eq!(ask(u32::MAX / 4, 1, 0, 3), 10);
+    assert_eq!(ask(300, 1, 9, 3), 3);
+    assert_eq!(ask(300, 1, 9, 4), 14);
+    assert_eq!(out, [5; 4]);
+}
+
+#[test]
+fn an_order_and_a_kind() {
+    let mut out = [5u64];
+    let order = [0u32, 0];
+    let mut sent = |n| unsafe {
+        hingevale_sent_of_section(
+            300,
+            100,
+            1,
+            0,
+            1,
+            1,
+            order.as_ptr(),
+            2,
+            9,
+            out.as_mut_ptr(),
+            n,
+        )
+    };
+    assert_eq!(sent(0), 3);
+    assert_eq!(sent(1), 13);
+    let mut kind = |number, n| unsafe {
+        hingevale_section_of_kind(300, 100, 1, 0, 1, 1, number, 7, 1, out.as_mut_ptr(), n)
+    };
+    assert_eq!(kind(5, 0), 3);
+    assert_eq!(kind(5, 1), 14);
+    assert_eq!(out, [5]);
+    let mut kind = |number, n| unsafe {
+        hingevale_section_of_kind(300, 100, 1, 0, 1, 1, number, 7, 1, out.as_mut_ptr(), n)
+    };
+    assert_eq!(kind(3, 1), 0);
+    assert_eq!(out, [2]);
+}
+
+#[test]
+fn a_table() {
+    let bytes = vec![0u8; 16777217];
+    let (mut offsets, mut sizes, mut order, mut inverse) =
+        ([5u64; 5], [5u32; 5], [5u32; 5], [5u32; 5]);
+    let mut out = [5u64; 3];
+    let mut read = |length, width, place, n| unsafe {
+        hingevale_read_toc(
+            bytes.as_ptr(),
+            length,
+            width,
+            100,
+            1,
+            0,
+            1,
+            1,
+            place,
+            offsets.as_mut_ptr(),
+            5,
+            sizes.as_mut_ptr(),
+            5,
+            order.as_mut_ptr(),
+            5,
+            inverse.as_mut_ptr(),
+            5,
+            out.as_mut_ptr(),
+            n,
+        )
+    };
+    assert_eq!(read(16777217, 0, 9999, 2), 2);
+    assert_eq!(read(16777216, 0, 9999, 2), 9);
+    assert_eq!(read(10, 300, 9999, 2), 3);
+    assert_eq!(read(10, 300, 9999, 3), 11);
+    assert_eq!(read(10, 300, 0, 2), 3);
+    assert_eq!(read(2, 300, 0, 3), 4 + 256 * 8);
+    assert_eq!(
+        (offsets, sizes, order, inverse, out),
+        ([5; 5], [5; 5], [5; 5], [5; 5], [5; 3])
+    );
+}
+
+#[test]
+fn a_header() {
+    let bytes = vec![1u8; 16777217];
+    let mut name = [5u8; 1071];
+    let (mut words, mut signed, mut floats) = ([5u64; 51], [5i32; 2], [5f32; 22]);
+    let mut read = |length, width, lent: [usize; 4]| unsafe {
+        hingevale_read_frame_header(
+            bytes.as_ptr(),
+            length,
+            width,
+            100,
+            false,
+            false,
+            0,
+            false,
+            false,
+            name.as_mut_ptr(),
+            lent[0],
+            [0u32].as_mut_ptr(),
+            0,
+            [0u32].as_mut_ptr(),
+            0,
+            words.as_mut_ptr(),
+            lent[1],
+            signed.as_mut_ptr(),
+            lent[2],
+            floats.as_mut_ptr(),
+            lent[3],
+        )
+    };
+    assert_eq!(read(16777217, 0, [0, 50, 2, 22]), 2);
+    assert_eq!(read(1, 0, [1071, 50, 2, 22]), 1);
+    for short in [
+        [1070, 51, 2, 22],
+        [1071, 50, 2, 22],
+        [1071, 51, 1, 22],
+        [1071, 51, 2, 21],
+    ] {
+        assert_eq!(read(1, 300, short), 3);
+        assert_eq!(read(0, 300, short), 3);
+    }
+    assert_eq!(read(0, 300, [1071, 51, 2, 22]), 4);
+    assert_eq!(
+        (name, words, signed, floats),
+        ([5; 1071], [5; 51], [5; 2], [5.0; 22])
+    );
+}
