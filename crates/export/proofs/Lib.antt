@@ -3,3 +3,4 @@ pub mod Asking
 pub mod Listing
 pub mod Entering
 pub mod Shown
+pub mod Tellings

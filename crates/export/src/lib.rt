@@ -3,6 +3,7 @@
 mod contents;
 mod geometry;
 mod heading;
+mod listed;
 mod lookups;
 mod questions;
 
@@ -18,6 +19,7 @@ pub use geometry::hingevale_measure;
 pub use geometry::hingevale_sample_height;
 pub use geometry::hingevale_sample_width;
 pub use heading::hingevale_read_frame_header;
+pub use listed::hingevale_list;
 pub use lookups::hingevale_kind_of;
 pub use lookups::hingevale_section_at;
 pub use lookups::hingevale_section_of_kind;

@@ -1,0 +1,45 @@
+// The listing: from the bytes of a facts line and a frame to the bytes of the text.
+use listing::TextAnswer;
+use words::status;
+ghost use mathlib.Core.Path.{_≡_};
+ghost use lib.Dec.{eqb, ltb};
+ghost use lib.ListN.{length, set};
+ghost use Rattle.bits.specs.Refusals.{pick};
+ghost use Rattle.lister.specs.Job.{jobText};
+ghost use Rattle.words.specs.Status.{statusOf};
+ghost use Rattle.export.specs.Told.{untold, Told};
+
+fn put_length(out: &mut [u64], v: u64)
+    ensures { λ _. ⌜ now (out .exit) ≡ set (now (out .entry)) 0 v ⌝ }
+{
+    if 0 < out.len() {
+        out[0] = v;
+    }
+}
+
+// The text's length as one word, unless it is refused; and the status.
+fn give_length(a: TextAnswer, out: &mut [u64]) -> u64
+    ensures { λ r. ⌜
+        (r ≡ statusOf (a .refusal))
+        × (now (out .exit) ≡ pick (eqb (a .refusal .number) 0) (set (now (out .entry)) 0 (a .length)) (now (out .entry)))
+        ⌝ }
+{
+    let refusal = a.refusal;
+    if refusal.number != 0 {
+        return status(refusal);
+    }
+    put_length(out, a.length as u64);
+    status(refusal)
+}
+
+// What the program `list` writes for an input; 3 where a lent slice is too short.
+#[no_mangle]
+pub extern "C" fn hingevale_list(input: &[u8], text: &mut [u8], out: &mut [u64]) -> u64
+    ensures { λ r. ⌜ Told (untold (ltb (length (now (out .entry))) 1) (jobText (now (input .entry))) (now (text .entry))) (jobText (now (input .entry))) (now (text .entry)) (now (text .exit)) (now (out .entry)) (now (out .exit)) r ⌝ }
+{
+    if out.len() < 1 {
+        return status(bits::refused(3, 0));
+    }
+    let a = lister::list_frame(input, text);
+    give_length(a, out)
+}
