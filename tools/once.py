@@ -26,6 +26,9 @@ def public(crate):
 
 def parts(text):
     """The parameters, whether there is an answer, and the promise of a function's text."""
+    body = text.index('{') if '{' in text else len(text)
+    if 'ensures' not in text[:body]:
+        return re.findall(r'(\w+): &mut', text[:body]), '->' in text[:body], 'r', ''
     head, clause = text[:text.index('ensures')], text[text.index('ensures'):]
     inside = clause[clause.index('⌜') + 1:clause.index('⌝')].strip()
     return re.findall(r'(\w+): &mut', head), '->' in head, re.search(r'λ (\S+)\.', clause).group(1), ' '.join(inside.split())
@@ -56,7 +59,7 @@ def strip(text):
 
 
 def main():
-    counts, wrong = {'one equation': 0, 'several equations': 0, 'a record with its law': 0}, []
+    counts, wrong = {'having no answer and nothing lent': 0, 'one equation': 0, 'several equations': 0, 'a record with its law': 0}, []
     laws = ''.join(open(p, encoding='utf-8').read() for p in glob.glob('crates/*/proofs/*.antt'))
     page = open('docs/PROMISES.md', encoding='utf-8').read()
     crates = [line.split(':')[0] for line in open('crates.txt') if re.match(r'\w+:', line)]
@@ -74,7 +77,9 @@ def main():
                 if right and not re.search(rf'\.exit|(?<![\w.«]){re.escape(bound)}(?![\w»])', right):
                     found.add(strip(left) if left != bound else left)
             record = re.match(r'([A-Z]\w*) ', promise)
-            if found == due and len(due) == 1:
+            if not due:
+                counts['having no answer and nothing lent'] += 1
+            elif found == due and len(due) == 1:
                 counts['one equation'] += 1
             elif found == due:
                 counts['several equations'] += 1
