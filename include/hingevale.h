@@ -130,6 +130,11 @@ uint64_t hingevale_section_at(HINGEVALE_FRAME, const uint64_t *offsets, size_t o
 uint64_t hingevale_sent_of_section(HINGEVALE_FRAME, const uint32_t *order, size_t order_len, uint32_t section, uint64_t *out, size_t out_len);
 uint64_t hingevale_section_of_sent(HINGEVALE_FRAME, const uint32_t *inverse, size_t inverse_len, uint32_t sent, uint64_t *out, size_t out_len);
 
+/* The whole job of the program `list`: input is a facts line and a frame, text is where its output goes, and out has at least one word, which
+ * becomes the output's length. What the program refuses of a frame is in the text; the status is 3 where out or text is too short (a listing of
+ * 1,024 sections has less than 262,656 bytes), and then nothing is written. */
+uint64_t hingevale_list(const uint8_t *input, size_t input_len, uint8_t *text, size_t text_len, uint64_t *out, size_t out_len);
+
 #ifdef __cplusplus
 }
 #endif

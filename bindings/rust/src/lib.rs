@@ -1,6 +1,7 @@
 //! A safe wrapper over the static library `export`: frame headers, geometry and tables of contents of JPEG XL frames.
 //! Every function is total. A refusal has the number and the bit place that the rules give it, and changes no lent slice.
-mod raw;
+/// The C functions as they are.
+pub mod raw;
 
 /// What a reader of the frame knows about the image.
 #[derive(Clone, Copy, Debug, PartialEq, Eq)]
@@ -632,4 +633,21 @@ pub fn section_of_sent(f: &Frame, inverse: &[u32], sent: u32) -> Result<u32, Ref
         inverse.len(),
         sent
     )?[0] as u32)
+}
+
+/// What the program `list` writes for an input (a facts line and a frame): how many bytes of `text` it is, or 3 where it doesn't fit.
+pub fn list(input: &[u8], text: &mut [u8]) -> Result<usize, Refusal> {
+    let mut words = [0u64; 1];
+    // Safe: each slice goes in as its own pointer and length.
+    let status = unsafe {
+        raw::hingevale_list(
+            input.as_ptr(),
+            input.len(),
+            text.as_mut_ptr(),
+            text.len(),
+            words.as_mut_ptr(),
+            words.len(),
+        )
+    };
+    Ok(accepted(status, words)?[0] as usize)
 }

@@ -83,6 +83,14 @@ extern "C" {
         out: *mut u64,
         out_len: usize,
     ) -> u64;
+    pub fn hingevale_list(
+        input: *const u8,
+        input_len: usize,
+        text: *mut u8,
+        text_len: usize,
+        out: *mut u64,
+        out_len: usize,
+    ) -> u64;
     pub fn hingevale_is_keyframe(frame_type: u32, is_last: bool, duration: u32) -> bool;
     pub fn hingevale_can_reference(
         frame_type: u32,

@@ -303,3 +303,21 @@ fn a_grid_at_its_bound() {
     assert_eq!(is_lf_group_collides_region(&f, 0, region), Ok(true));
     assert_eq!(lf_group_rect(&f, 1).unwrap().left, 1024);
 }
+
+#[test]
+fn listing() {
+    let mut input = b"300\t100\t0\t0\t0\t0\t0\n".to_vec();
+    input.extend(EXAMPLE);
+    let due = include_bytes!("../../../crates/list/stdout");
+    let mut text = [7u8; 400];
+    assert_eq!(list(&input, &mut text), Ok(due.len()));
+    assert_eq!(text[..due.len()], due[..]);
+    assert!(text[due.len()..].iter().all(|&b| b == 7));
+    let mut short = vec![7u8; due.len() - 1];
+    assert_eq!(list(&input, &mut short), Err(Refusal { number: 3, place: 0 }));
+    assert!(short.iter().all(|&b| b == 7));
+    let mut just = vec![7u8; due.len()];
+    assert_eq!(list(&input, &mut just), Ok(due.len()));
+    assert_eq!(list(b"0300", &mut text), Ok(12));
+    assert_eq!(&text[..12], b"refused\t1\t0\n");
+}

@@ -1,91 +1,6 @@
 //! A slice that is too short for a record is 3 in its turn, and nothing lent is changed. The wrapper always lends enough, so the C functions are
 //! called here themselves.
-extern "C" {
-    fn hingevale_group_rect(
-        width: u32,
-        height: u32,
-        upsampling: u32,
-        lf_level: u32,
-        group_size_shift: u32,
-        num_passes: u32,
-        group_idx: u32,
-        out: *mut u64,
-        out_len: usize,
-    ) -> u64;
-    fn hingevale_sent_of_section(
-        width: u32,
-        height: u32,
-        upsampling: u32,
-        lf_level: u32,
-        group_size_shift: u32,
-        num_passes: u32,
-        order: *const u32,
-        order_len: usize,
-        section: u32,
-        out: *mut u64,
-        out_len: usize,
-    ) -> u64;
-    fn hingevale_section_of_kind(
-        width: u32,
-        height: u32,
-        upsampling: u32,
-        lf_level: u32,
-        group_size_shift: u32,
-        num_passes: u32,
-        kind: u32,
-        pass_idx: u32,
-        group_idx: u32,
-        out: *mut u64,
-        out_len: usize,
-    ) -> u64;
-    fn hingevale_read_toc(
-        s: *const u8,
-        s_len: usize,
-        width: u32,
-        height: u32,
-        upsampling: u32,
-        lf_level: u32,
-        group_size_shift: u32,
-        num_passes: u32,
-        place: u64,
-        offsets: *mut u64,
-        offsets_len: usize,
-        sizes: *mut u32,
-        sizes_len: usize,
-        order: *mut u32,
-        order_len: usize,
-        inverse: *mut u32,
-        inverse_len: usize,
-        out: *mut u64,
-        out_len: usize,
-    ) -> u64;
-    fn hingevale_read_frame_header(
-        s: *const u8,
-        s_len: usize,
-        width: u32,
-        height: u32,
-        xyb: bool,
-        grey: bool,
-        extra: u32,
-        animation: bool,
-        timecodes: bool,
-        name: *mut u8,
-        name_len: usize,
-        upsampling: *mut u32,
-        upsampling_len: usize,
-        blending: *mut u32,
-        blending_len: usize,
-        words: *mut u64,
-        words_len: usize,
-        signed: *mut i32,
-        signed_len: usize,
-        floats: *mut f32,
-        floats_len: usize,
-    ) -> u64;
-}
-
-// The wrapper is named so that its library is linked.
-use hingevale as _;
+use hingevale::raw::*;
 
 #[test]
 fn a_rectangle() {
@@ -222,4 +137,23 @@ fn a_header() {
         (name, words, signed, floats),
         ([5; 1071], [5; 51], [5; 2], [5.0; 22])
     );
+}
+
+#[test]
+fn a_listing() {
+    let input = b"0";
+    let (mut text, mut out) = ([5u8; 20], [5u64]);
+    let mut list = |room, n| unsafe {
+        hingevale_list(
+            input.as_ptr(),
+            1,
+            text.as_mut_ptr(),
+            room,
+            out.as_mut_ptr(),
+            n,
+        )
+    };
+    assert_eq!(list(20, 0), 3);
+    assert_eq!(list(11, 1), 3);
+    assert_eq!((text, out), ([5; 20], [5]));
 }
