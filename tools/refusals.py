@@ -54,9 +54,13 @@ def main():
         wanted = re.findall(r'^refuses: (.*)', open(path, encoding='utf-8').read(), re.M)
         log = f'target/must-fail/{crate}/{name[:-5]}/.log'
         text = open(log, encoding='utf-8').read() if os.path.exists(log) else ''
-        errors = [e for e in re.findall(r': error: (.*)', text) if 'was not admitted' not in e]
-        if errors and all(re.search('that can be named from here|has no field', e) for e in errors):
-            wrong.append(f'{crate}/{name[:-5]}: refused at a name, not at a fact')
+        by_proof = {}
+        for proof, error in re.findall(r'^\S+?/proofs/(\S+?)\.antt:\d+:\d+: error: (.*)', text, re.M):
+            if 'was not admitted' not in error:
+                by_proof.setdefault(proof, []).append(error)
+        for proof, errors in by_proof.items():
+            if all(re.search('that can be named from here|has no field', e) for e in errors):
+                wrong.append(f'{crate}/{name[:-5]}: {proof} is refused at a name, not at a fact')
         for function in ' '.join(wanted).split():
             if not re.search(rf'^fn {crate}::(?:\w+::)*{function}: (?:not proved$|no proof: (?!.*it calls))', text, re.M):
                 wrong.append(f'{crate}/{name[:-5]}: {function} is not refused by itself')
