@@ -15,8 +15,9 @@ use Rattle.order.proofs.Entries.{split}
 abbrev pub number : Refusal → ℕ
 number r = r .number
 
-pub unmarked : Unmarked (replicate 65536 0)
-unmarked = record { size = length-replicate {A = ℕ} 65536 0; clear = λ k h. getD-replicate {A = ℕ} 65536 k 0 0 h }
+-- so many zeroes are marks for as many numbers or fewer
+pub unmarked : (size n : ℕ) → n ≤ size → Unmarked n (replicate size 0)
+unmarked size n h = record { room = rw (length-replicate {A = ℕ} size 0) h; clear = λ k low. getD-replicate {A = ℕ} size k 0 0 (omega arith) }
 
 module _ (count : ℕ) (l : List ℕ) where
   pub other-length : (length l ≡ count → ⊥) → false ≡ isOrder count l

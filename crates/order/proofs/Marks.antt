@@ -23,8 +23,8 @@ mark b = pick b 1 0
 
 pub record Marked (n : ℕ) (order marks : List ℕ) (i : ℕ) : Type 0 where
   pub within : i ≤ n
-  pub size : length marks ≡ 65536
-  pub says : (k : ℕ) → k < 65536 → getD marks k 0 ≡ mark (has k (take i order))
+  pub room : n ≤ length marks
+  pub says : (k : ℕ) → k < n → getD marks k 0 ≡ mark (has k (take i order))
   pub below : allBelow n (take i order) ≡ true
   pub new : distinct (take i order) ≡ true
 
@@ -37,9 +37,9 @@ mark-none true h = absurd (omega arith)
 mark-none false h = refl
 
 module _ (n : ℕ) (order marks : List ℕ) where
-  pub marked-none : Unmarked marks → Marked n order marks 0
+  pub marked-none : Unmarked n marks → Marked n order marks 0
   unfolding has allBelow distinct
-  marked-none u = record { within = omega arith; size = u .size; says = u .clear; below = refl; new = refl }
+  marked-none u = record { within = omega arith; room = u .room; says = u .clear; below = refl; new = refl }
 
 module _ (n : ℕ) (order : List ℕ) (whole : length order ≡ n) where
   pub too-large : (i : ℕ) → i < n → n ≤ getD order i 0 → false ≡ (allBelow n order && distinct order)
@@ -54,7 +54,7 @@ module _ (n : ℕ) (order : List ℕ) (whole : length order ≡ n) where
       let all : take i order ≡ order = take-all i order (omega arith) in
       sym (and-both (ap (allBelow n) (sym all) ∙ m .below) (ap distinct (sym all) ∙ m .new))
 
-  module _ (small : n ≤ 65536) (marks : List ℕ) (i : ℕ) (m : Marked n order marks i) (h : i < n) (low : getD order i 0 < n) where
+  module _ (marks : List ℕ) (i : ℕ) (m : Marked n order marks i) (h : i < n) (low : getD order i 0 < n) where
     pub twice : (getD marks (getD order i 0) 0 ≡ 0 → ⊥) → false ≡ (allBelow n order && distinct order)
     twice set =
         let x : ℕ = getD order i 0 in
@@ -77,11 +77,11 @@ module _ (n : ℕ) (order : List ℕ) (whole : length order ≡ n) where
         let said : (k : ℕ) → has k (take (i + 1) order) ≡ (has k (take i order) || eqb x k) = λ k. ap (has k) more ∙ has-more x k (take i order) in
         record {
           within = omega arith;
-          size = length-set marks x 1 ∙ m .size;
+          room = rw (length-set marks x 1) (m .room);
           says = λ k hk.
               by-cases (ℕ-discrete k x)
               (λ q.
-              rw (said k, eq-eqb x k (sym q), or-true, q) (getD-set-same marks x 1 0 (omega (arith, m .size))))
+              rw (said k, eq-eqb x k (sym q), or-true, q) (getD-set-same marks x 1 0 (omega (arith, m .room))))
               (λ q.
               rw (said k, ne-eqb x k (λ p. q (sym p)), or-false) (getD-set-other marks x k 1 0 q ∙ m .says k hk));
           below = ap (allBelow n) more ∙ below-more x n (take i order) low (m .below);

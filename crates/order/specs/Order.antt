@@ -1,5 +1,5 @@
 -- What an order is, and what is refused of a lent one.
-use Prim.Native.Nat.{ℕ, _<_}
+use Prim.Native.Nat.{ℕ, _≤_, _<_}
 use mathlib.Core.Path.{_≡_}
 use mathlib.Core.List.{List, [], _∷_}
 use mathlib.Core.Bool.{Bool, true, false, not, _&&_, _||_}
@@ -31,7 +31,7 @@ isOrder count l = eqb (length l) count && (allBelow count l && distinct l)
 unfoldable pub checked : ℕ → List ℕ → Refusal
 checked count l = pick (ltb 65536 count) (refusal 10 0) (pick (isOrder count l) none (refusal 13 0))
 
--- a table of 65,536 marks, none set
-pub record Unmarked (marks : List ℕ) : Type 0 where
-  pub size : length marks ≡ 65536
-  pub clear : (k : ℕ) → k < 65536 → getD marks k 0 ≡ 0
+-- a mark for each of n numbers, none set
+pub record Unmarked (n : ℕ) (marks : List ℕ) : Type 0 where
+  pub room : n ≤ length marks
+  pub clear : (k : ℕ) → k < n → getD marks k 0 ≡ 0

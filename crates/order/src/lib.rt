@@ -34,8 +34,8 @@ pub struct SectionAnswer {
 }
 
 // Whether every entry is below n and none occurs twice, by a mark for each number that has occurred: one walk.
-fn mark_all(order: &[u32], n: usize, marks: &mut [u8; 65536]) -> bool
-    requires { ⌜ (length (now order) ≡ n) × (n ≤ 65536) × Unmarked (now marks) ⌝ }
+fn mark_all(order: &[u32], n: usize, marks: &mut [u8]) -> bool
+    requires { ⌜ (length (now order) ≡ n) × Unmarked n (now marks) ⌝ }
     ensures { λ r. ⌜ r ≡ (allBelow n (now (order .entry)) && distinct (now (order .entry))) ⌝ }
 {
     let mut i: usize = 0;
@@ -53,7 +53,7 @@ fn mark_all(order: &[u32], n: usize, marks: &mut [u8; 65536]) -> bool
     true
 }
 
-// Whether the entries are a permutation of 0 to count - 1.
+// Whether the entries are a permutation of 0 to count - 1. A small frame doesn't pay for the marks of a large one.
 fn is_order(order: &[u32], count: u32) -> bool
     requires { ⌜ count ≤ 65536 ⌝ }
     ensures { λ r. ⌜ r ≡ isOrder count (now (order .entry)) ⌝ }
@@ -61,6 +61,10 @@ fn is_order(order: &[u32], count: u32) -> bool
     let n = count as usize;
     if order.len() != n {
         return false;
+    }
+    if n <= 512 {
+        let mut few = [0u8; 512];
+        return mark_all(order, n, &mut few);
     }
     let mut marks = [0u8; 65536];
     mark_all(order, n, &mut marks)

@@ -2,18 +2,20 @@
 use borrow.Author.Needs.{needs}
 use native.Mathlib.Omega.{arith}
 use Prim.Native.Nat.{_-_}
+use mathlib.Core.Path.{_≡_, refl, _∙_}
+use lib.ListN.{length, length-set}
 use Rattle.order.proofs.Marks.{Marked, marked-none, marked-more, marked-all, too-large, twice}
 use Rattle.order.proofs.mark_all.Statement.{statement}
 use Rattle.order.proofs.mark_all.Tie as tie
 
 abbrev Inv-loop : tie.InvT-loop
-Inv-loop order n marks₀ i₀ marks i = Marked n order marks i
+Inv-loop order n marks₀ i₀ marks i = (length marks ≡ length marks₀) × Marked n order marks i
 
 abbrev μ-loop : tie.MeasureT-loop
 μ-loop order n marks₀ i₀ marks i = n - i
 
 loop-holds : tie.Need-loop-holds Inv-loop μ-loop
-loop-holds c = marked-none _ _ _ (c .pre .2)
+loop-holds c = (refl, marked-none _ _ _ (c .pre .1))
 
 mul-k : tie.Need-mul-k Inv-loop μ-loop
 mul-k c = search needs
@@ -24,20 +26,26 @@ shared-slice-read-k c = search needs
 cast-k : tie.Need-cast-k Inv-loop μ-loop
 cast-k c = omega (arith, c .shared-slice-known .given (c .before .before .loop .i))
 
+same-length : tie.Need-same-length Inv-loop μ-loop
+same-length c = search needs
+
 returns : tie.Need-returns Inv-loop μ-loop
 returns c = too-large _ _ (c .before .before .before .before .pre .0) _ (c .before .before .loop-test .taken) (omega arith)
 
-element-copy-out-if2 : tie.Need-element-copy-out-if2 Inv-loop μ-loop
-element-copy-out-if2 c = search needs
+slice-read-if2 : tie.Need-slice-read-if2 Inv-loop μ-loop
+slice-read-if2 c = search needs
+
+same-length-2 : tie.Need-same-length-2 Inv-loop μ-loop
+same-length-2 c = search needs
 
 returns-2 : tie.Need-returns-2 Inv-loop μ-loop
 returns-2 c =
     let a = c .before .before .before .before .before .before in
-    twice _ _ (a .pre .0) (a .pre .1) _ _ (c .before .before .before .before .before .loop .inv) (c .before .before .before .before .loop-test .taken)
+    twice _ _ (a .pre .0) _ _ (c .before .before .before .before .before .loop .inv .1) (c .before .before .before .before .loop-test .taken)
     (c .before .before .if1 .left) (c .if2 .taken)
 
-element-write-marks : tie.Need-element-write-marks Inv-loop μ-loop
-element-write-marks c = search needs
+slice-write-marks : tie.Need-slice-write-marks Inv-loop μ-loop
+slice-write-marks c = search needs
 
 add-i : tie.Need-add-i Inv-loop μ-loop
 add-i c = search needs
@@ -48,11 +56,16 @@ loop-less c = search needs
 loop-again : tie.Need-loop-again Inv-loop μ-loop
 loop-again c =
     let a = c .before .before .before .before .before .before in
-    marked-more _ _ (a .pre .0) (a .pre .1) _ _ (c .before .before .before .before .before .loop .inv) (c .before .before .before .before .loop-test .taken)
-    (c .before .before .if1 .left) (c .if2 .left)
+    let l = c .before .before .before .before .before .loop in
+    (length-set (l .marks) _ 1 ∙ l .inv .0,
+    marked-more _ _ (a .pre .0) _ _ (l .inv .1) (c .before .before .before .before .loop-test .taken)
+    (c .before .before .if1 .left) (c .if2 .left))
+
+same-length-3 : tie.Need-same-length-3 Inv-loop μ-loop
+same-length-3 c = search needs
 
 returns-3 : tie.Need-returns-3 Inv-loop μ-loop
-returns-3 c = marked-all _ _ (c .before .before .pre .0) _ _ (c .before .loop .inv) (c .loop-test .left)
+returns-3 c = marked-all _ _ (c .before .before .pre .0) _ _ (c .before .loop .inv .1) (c .loop-test .left)
 
 pub mark-all-spec : {M : Type 1} → statement M
 mark-all-spec =
@@ -64,11 +77,14 @@ mark-all-spec =
     mul-k
     shared-slice-read-k
     cast-k
+    same-length
     returns
-    element-copy-out-if2
+    slice-read-if2
+    same-length-2
     returns-2
-    element-write-marks
+    slice-write-marks
     add-i
     loop-less
     loop-again
+    same-length-3
     returns-3)
