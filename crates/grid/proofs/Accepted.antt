@@ -1,5 +1,5 @@
 -- What an accepted check tells of a frame and its grid: bounds, sides and counts.
-use Prim.Native.Nat.{ℕ, _+_, _*_, _^_, _≤_, _<_}
+use Prim.Native.Nat.{ℕ, _+_, _*_, _%_, _^_, _≤_, _<_}
 use native.Mathlib.Omega.{arith}
 use native.Mathlib.Nat.{mul-le-mul, mul-pos, le-mul-of-pos-right, pow-le-pow-right, le-trans}
 use mathlib.Core.Path.{_≡_, refl, ap}
@@ -15,7 +15,7 @@ use Rattle.grid.specs.declared.Frame.{Frame}
 use Rattle.grid.specs.declared.Grid.{Grid}
 use Rattle.grid.specs.Sizes.{up, sample, colorWidth, colorHeight, groupSide, lfSide, count, sectionsOf, sections}
 use Rattle.grid.specs.Measured.{upsamples, goodRecord, zeroSize, tooMany, laid, refusedGrid, gridOf}
-use Rattle.grid.proofs.Rounding.{up-pos, up-le, up-fewer, up-small, below}
+use Rattle.grid.proofs.Rounding.{up-pos, up-le, up-fewer, up-small, below, side-exact}
 
 pub and-parts : (a b : Bool) → (a && b) ≡ true → (a ≡ true) × (b ≡ true)
 and-parts true b e = (refl, e)
@@ -157,6 +157,8 @@ pub record Sound (f : Frame) (g : Grid) : Type 0 where
   pub width : 0 < g .width
   pub height : 0 < g .height
   pub side : 0 < g .side
+  pub shift : f .«group_size_shift» ≤ 3
+  pub side-is : 128 * 2 ^ f .«group_size_shift» % 4294967296 ≡ g .side
   pub lf-side : g .«lf_side» ≡ g .side * 8
   pub columns : g .columns ≡ up (g .width) (g .side)
   pub rows : g .rows ≡ up (g .height) (g .side)
@@ -178,6 +180,8 @@ laid-sound f a = record {
   width = a .width;
   height = a .height;
   side = omega (arith, a .side);
+  shift = a .good .shift;
+  side-is = side-exact (f .«group_size_shift») (a .good .shift);
   lf-side = refl;
   columns = refl;
   rows = refl;

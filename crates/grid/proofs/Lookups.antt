@@ -37,23 +37,27 @@ module _ (f : Frame) (g : Grid) (m : g ≡ gridOf f) (known : Bool) (r : Refusal
     unfolding lfIndexOf
     lf-yes z = rw (← m, ← ek, ← er) (numbered-yes r _ z)
 
-  module _ (x y : ℕ) (ek : known ≡ (ltb (x / g .side) (g .columns) && ltb (y / g .side) (g .rows))) where
+  -- the side may be written as another number that is the same
+  module _ (d : ℕ) (ed : d ≡ g .side) (x y : ℕ) (ek : known ≡ (ltb (x / d) (g .columns) && ltb (y / d) (g .rows))) where
+    own : known ≡ (ltb (x / g .side) (g .columns) && ltb (y / g .side) (g .rows))
+    own = rw ed at ek
+
     pub index-no : (r .number ≡ 0 → ⊥) → _≡_ {A = Number} (record { value = 0; refusal = r }) (indexFor (gridOf f) x y)
     unfolding indexFor
-    index-no z = rw (← m, ← ek, ← er) (numbered-no r _ z)
+    index-no z = rw (← m, ← own, ← er) (numbered-no r _ z)
 
     pub index-yes : r .number ≡ 0
-        → _≡_ {A = Number} (record { value = indexAt (g .columns) (g .side) x y; refusal = r }) (indexFor (gridOf f) x y)
+        → _≡_ {A = Number} (record { value = indexAt (g .columns) d x y; refusal = r }) (indexFor (gridOf f) x y)
     unfolding indexFor
-    index-yes z = rw (← m, ← ek, ← er) (numbered-yes r _ z)
+    index-yes z = rw (ed, ← m, ← own, ← er) (numbered-yes r _ z)
 
     -- the number of a point's group is below the count
-    pub index-lt : r .number ≡ 0 → indexAt (g .columns) (g .side) x y < 65536
+    pub index-lt : r .number ≡ 0 → indexAt (g .columns) d x y < 65536
     index-lt z =
         let ok = allowed z in
         let tests = and-parts _ _ (sym ek ∙ ok .1) in
-        let column = ltb-true (x / g .side) (g .columns) (tests .0) in
-        let row = ltb-true (y / g .side) (g .rows) (tests .1) in
+        let column = ltb-true (x / d) (g .columns) (tests .0) in
+        let row = ltb-true (y / d) (g .rows) (tests .1) in
         omega (arith, digits-lt row column, mul-comm (g .columns) (g .rows), ok .0 .product, ok .0 .groups)
 
 -- the frame's own refusal, whatever the point

@@ -366,7 +366,8 @@ pub fn lf_group_idx_from_group_idx(f: Frame, group_idx: u32) -> Number
     }
 }
 
-// The group of a point, which may lie beyond the picture but inside an unclipped group.
+// The group of a point, which may lie beyond the picture but inside an unclipped group. The side is written as the power of two that it is,
+// so that dividing by it is a shift.
 pub fn group_idx_from_coord(f: Frame, x: u32, y: u32) -> Number
     ensures { λ r. ⌜ r ≡ indexFor (gridOf f) x y ⌝ }
 {
@@ -378,7 +379,8 @@ pub fn group_idx_from_coord(f: Frame, x: u32, y: u32) -> Number
             refusal: own,
         };
     }
-    let side = g.side;
+    let power = f.group_size_shift;
+    let side = 128u32 << power;
     let column = x / side;
     let row = y / side;
     let known = bits::both(column < g.columns, row < g.rows);

@@ -1,5 +1,5 @@
 -- Laws of the look-ups: what each way answers, and that the section of a sample is one that the frame has.
-use Prim.Native.Nat.{ℕ, _<_}
+use Prim.Native.Nat.{ℕ, _*_, _%_, _^_, _≤_, _<_}
 use native.Mathlib.Omega.{arith}
 use mathlib.Core.Path.{_≡_, refl, sym, _∙_}
 use mathlib.Core.List.{List}
@@ -13,7 +13,7 @@ use Rattle.grid.specs.declared.Frame.{Frame}
 use Rattle.grid.specs.declared.Grid.{Grid}
 use Rattle.grid.specs.Measured.{gridOf}
 use Rattle.grid.specs.Groups.{judge, indexAt}
-use Rattle.grid.proofs.Accepted.{and-parts}
+use Rattle.grid.proofs.Accepted.{and-parts, sound}
 use Rattle.grid.proofs.Answers.{judged}
 use Rattle.order.specs.declared.SectionNumber.{SectionNumber}
 use Rattle.order.specs.declared.SentNumber.{SentNumber}
@@ -52,9 +52,10 @@ module _ (g : Grid) (x y pass : ℕ) where
   unfolding sampleKind
   sample-all h = rw (eq-eqb (g .sections) 1 h)
 
-  pub sample-group : (g .sections ≡ 1 → ⊥) → GroupPass pass (indexAt (g .columns) (g .side) x y) ≡ sampleKind g x y pass
+  -- the side may be written as another number that is the same
+  pub sample-group : (d : ℕ) → d ≡ g .side → (g .sections ≡ 1 → ⊥) → GroupPass pass (indexAt (g .columns) d x y) ≡ sampleKind g x y pass
   unfolding sampleKind
-  sample-group h = rw (ne-eqb (g .sections) 1 h)
+  sample-group d ed h = rw (ed, ne-eqb (g .sections) 1 h)
 
 -- the frame has the sample's kind
 pub sample-has : (f : Frame) (g : Grid) → Counts f g → (x y pass : ℕ) → Sample g (f .«num_passes») x y pass → hasKind g (f .«num_passes») (numbersOf (sampleKind g x y pass)) ≡ true
@@ -68,7 +69,7 @@ sample-has f g n x y pass a =
     (λ t.
     let h : g .sections ≡ 1 → ⊥ = eqb-false (g .sections) 1 t in
     let k : KindNumbers = numbersOf (GroupPass pass group) in
-    rw (← sample-group g x y pass h)
+    rw (← sample-group g x y pass (g .side) refl h)
     (sym (has-pass g passes k h (eqb-false 4 2 refl) refl true
     (sym (and-both (lt-ltb pass passes (a .early)) (lt-ltb group (g .groups) (n .sample x y (a .across) (a .down))))))))
 
@@ -84,10 +85,11 @@ module _ (f : Frame) (g : Grid) (m : g ≡ gridOf f) (x y pass : ℕ) (known : B
         (ok .0, sample-parts g (f .«num_passes») x y pass (sym en ∙ ok .1))
 
     -- what computing the group asks
-    pub sample-group-fits : (0 < g .side) × (indexAt (g .columns) (g .side) x y < 65536)
+    pub sample-group-fits : (f .«group_size_shift» ≤ 3) × (128 * 2 ^ f .«group_size_shift» % 4294967296 ≡ g .side) × (0 < g .side) × (indexAt (g .columns) (g .side) x y < 65536)
     sample-group-fits =
         let low : indexAt (g .columns) (g .side) x y < g .groups = found .0 .sample x y (found .1 .across) (found .1 .down) in
-        (found .0 .side, omega (arith, low, found .0 .few))
+        let s = sound f g m (judged g known (rw er at z) .0) in
+        (s .shift, s .side-is, found .0 .side, omega (arith, low, found .0 .few))
 
     module _ (kind : TocGroupKind) (ek : kind ≡ sampleKind g x y pass) (k : KindNumbers) (ekn : k ≡ numbersOf kind) where
       pub sample-fits : sectionNumber g k < 65536

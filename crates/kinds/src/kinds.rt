@@ -9,7 +9,7 @@ use grid::Grid;
 use order::SectionAnswer;
 use order::SectionNumber;
 ghost use mathlib.Core.Path.{_≡_};
-ghost use Prim.Native.Nat.{_<_};
+ghost use Prim.Native.Nat.{_*_, _%_, _^_, _≤_, _<_};
 ghost use Rattle.grid.specs.Groups.{judge, indexAt};
 ghost use Rattle.kinds.specs.Kinds.{numbersOf, hasKind, sectionNumber, kindAt, sectionOfKind, kindOf};
 ghost use Rattle.kinds.specs.Lookups.{sampleKind, hasSample, sectionOfSample};
@@ -169,15 +169,16 @@ fn has_sample(g: Grid, passes: u32, x: u32, y: u32, pass: u32) -> bool
     bits::both(inside, pass < passes)
 }
 
-// The kind of the section that holds a sample in a pass.
-fn sample_kind(g: Grid, x: u32, y: u32, pass: u32) -> TocGroupKind
-    requires { ⌜ (0 < g .side) × (indexAt (g .columns) (g .side) x y < 65536) ⌝ }
+// The kind of the section that holds a sample in a pass. The side is written as the power of two that it is, so that dividing by it is a
+// shift.
+fn sample_kind(g: Grid, shift: u32, x: u32, y: u32, pass: u32) -> TocGroupKind
+    requires { ⌜ (shift ≤ 3) × (128 * 2 ^ shift % 4294967296 ≡ g .side) × (0 < g .side) × (indexAt (g .columns) (g .side) x y < 65536) ⌝ }
     ensures { λ r. ⌜ r ≡ sampleKind g x y pass ⌝ }
 {
     if g.sections == 1 {
         return TocGroupKind::All;
     }
-    let side = g.side;
+    let side = 128u32 << shift;
     let group_idx = (y / side) * g.columns + x / side;
     TocGroupKind::GroupPass {
         pass_idx: pass,
@@ -198,7 +199,7 @@ pub fn section_of_sample(f: Frame, x: u32, y: u32, pass: u32) -> SectionAnswer
             refusal,
         };
     }
-    let k = kind_numbers(sample_kind(g, x, y, pass));
+    let k = kind_numbers(sample_kind(g, f.group_size_shift, x, y, pass));
     let section = section_number(g, k);
     SectionAnswer {
         section: SectionNumber(section),

@@ -12,11 +12,18 @@ measure-requires c κs = search needs
 returns : tie.Need-returns
 returns c = index-own (c .before .before .before .before .args .f) _ (c .before .before .before .measure .ensures) _ _ (c .if1 .taken)
 
+shl-side : tie.Need-shl-side
+shl-side c = omega (arith, sound _ _ (c .before .before .before .measure .ensures) (c .if1 .left) .shift)
+
 div-column : tie.Need-div-column
-div-column c = sound _ _ (c .before .before .before .measure .ensures) (c .if1 .left) .side
+div-column c =
+    let s = sound _ _ (c .before .before .before .measure .ensures) (c .if1 .left) in
+    omega (arith, s .side, s .side-is)
 
 div-row : tie.Need-div-row
-div-row c = sound _ _ (c .before .before .before .measure .ensures) (c .if1 .left) .side
+div-row c =
+    let s = sound _ _ (c .before .before .before .measure .ensures) (c .if1 .left) in
+    omega (arith, s .side, s .side-is)
 
 both-requires : tie.Need-both-requires
 both-requires c κs = search needs
@@ -25,16 +32,16 @@ judge-requires : tie.Need-judge-requires
 judge-requires c κs = search needs
 
 returns-2 : tie.Need-returns-2
-returns-2 c = index-no (c .before .before .before .before .before .before .before .before .before .before .args .f) _ (c .before .before .before .before .before .before .before .before .before .measure .ensures) _ _ (c .before .before .judge .ensures) (c .before .before .before .before .before .before .before .before .before .before .args .x) (c .before .before .before .before .before .before .before .before .before .before .args .y) (c .before .before .before .both .ensures) (c .if2 .taken)
+returns-2 c = index-no (c .before .before .before .before .before .before .before .before .before .before .args .f) _ (c .before .before .before .before .before .before .before .before .before .measure .ensures) _ _ (c .before .before .judge .ensures) _ (sound _ _ (c .before .before .before .before .before .before .before .before .before .measure .ensures) (c .before .before .before .before .before .before .if1 .left) .side-is) (c .before .before .before .before .before .before .before .before .before .before .args .x) (c .before .before .before .before .before .before .before .before .before .before .args .y) (c .before .before .before .both .ensures) (c .if2 .taken)
 
-mul-t13 : tie.Need-mul-t13
-mul-t13 c = record { fits = omega (arith, index-lt (c .before .before .before .before .before .before .before .before .before .before .before .args .f) _ (c .before .before .before .before .before .before .before .before .before .before .measure .ensures) _ _ (c .before .before .before .judge .ensures) (c .before .before .before .before .before .before .before .before .before .before .before .args .x) (c .before .before .before .before .before .before .before .before .before .before .before .args .y) (c .before .before .before .before .both .ensures) (c .before .if2 .left)) }
+mul-t14 : tie.Need-mul-t14
+mul-t14 c = record { fits = omega (arith, index-lt (c .before .before .before .before .before .before .before .before .before .before .before .args .f) _ (c .before .before .before .before .before .before .before .before .before .before .measure .ensures) _ _ (c .before .before .before .judge .ensures) _ (sound _ _ (c .before .before .before .before .before .before .before .before .before .before .measure .ensures) (c .before .before .before .before .before .before .before .if1 .left) .side-is) (c .before .before .before .before .before .before .before .before .before .before .before .args .x) (c .before .before .before .before .before .before .before .before .before .before .before .args .y) (c .before .before .before .before .both .ensures) (c .before .if2 .left)) }
 
-add-t14 : tie.Need-add-t14
-add-t14 c = record { fits = omega (arith, index-lt (c .before .before .before .before .before .before .before .before .before .before .before .args .f) _ (c .before .before .before .before .before .before .before .before .before .before .measure .ensures) _ _ (c .before .before .before .judge .ensures) (c .before .before .before .before .before .before .before .before .before .before .before .args .x) (c .before .before .before .before .before .before .before .before .before .before .before .args .y) (c .before .before .before .before .both .ensures) (c .before .if2 .left)) }
+add-t15 : tie.Need-add-t15
+add-t15 c = record { fits = omega (arith, index-lt (c .before .before .before .before .before .before .before .before .before .before .before .args .f) _ (c .before .before .before .before .before .before .before .before .before .before .measure .ensures) _ _ (c .before .before .before .judge .ensures) _ (sound _ _ (c .before .before .before .before .before .before .before .before .before .before .measure .ensures) (c .before .before .before .before .before .before .before .if1 .left) .side-is) (c .before .before .before .before .before .before .before .before .before .before .before .args .x) (c .before .before .before .before .before .before .before .before .before .before .before .args .y) (c .before .before .before .before .both .ensures) (c .before .if2 .left)) }
 
 returns-3 : tie.Need-returns-3
-returns-3 c = index-yes (c .before .before .before .before .before .before .before .before .before .before .before .args .f) _ (c .before .before .before .before .before .before .before .before .before .before .measure .ensures) _ _ (c .before .before .before .judge .ensures) (c .before .before .before .before .before .before .before .before .before .before .before .args .x) (c .before .before .before .before .before .before .before .before .before .before .before .args .y) (c .before .before .before .before .both .ensures) (c .before .if2 .left)
+returns-3 c = index-yes (c .before .before .before .before .before .before .before .before .before .before .before .args .f) _ (c .before .before .before .before .before .before .before .before .before .before .measure .ensures) _ _ (c .before .before .before .judge .ensures) _ (sound _ _ (c .before .before .before .before .before .before .before .before .before .before .measure .ensures) (c .before .before .before .before .before .before .before .if1 .left) .side-is) (c .before .before .before .before .before .before .before .before .before .before .before .args .x) (c .before .before .before .before .before .before .before .before .before .before .before .args .y) (c .before .before .before .before .both .ensures) (c .before .if2 .left)
 
 pub group-idx-from-coord-spec : {M : Type 1} → statement M
 group-idx-from-coord-spec =
@@ -42,11 +49,12 @@ group-idx-from-coord-spec =
     (tie.spec
     measure-requires
     returns
+    shl-side
     div-column
     div-row
     both-requires
     judge-requires
     returns-2
-    mul-t13
-    add-t14
+    mul-t14
+    add-t15
     returns-3)
