@@ -21,8 +21,8 @@ use Rattle.filter.specs.declared.settings.ScaleRead.{ScaleRead}
 use Rattle.filter.specs.declared.settings.SigmaRead.{SigmaRead}
 use Rattle.filter.specs.declared.epf.EdgePreservingFilter.{EdgePreservingFilter}
 use Rattle.filter.specs.declared.epf.EpfRead.{EpfRead}
-use Rattle.filter.specs.Values.{float, floats, floatRead}
-use Rattle.filter.specs.Epf.{sharpDefault, scaleDefault, sigmaDefault, epfDisabled, sharp, scale, sigma, sigmaOf, epfOf, epf, sharpRead, scaleRead, sigmaRead, epfRead}
+use Rattle.filter.specs.Values.{decimal, float, floats, floatRead}
+use Rattle.filter.specs.Epf.{sharpDefault, scaleDefault, sigmaDefault, epfDefault, epfDisabled, sharp, scale, sigma, sigmaOf, epfOf, epf, sharpRead, scaleRead, sigmaRead, epfRead}
 
 pub float-read : (s : List ℕ) (on : Bool) (d : ℕ) (c : Cursor) (h : Field) (value : Float) → h ≡ field s on f16 d c → value ≡ half (h .value)
     → _≡_ {A = FloatRead} (record { value = value; next = h .next }) (floatRead (field s on f16 d c))
@@ -50,6 +50,11 @@ module _ (p : EpfParams) where
 
   pub of-some : (p .iters ≡ 0 → ⊥) → _≡_ {A = EdgePreservingFilter} (record { enabled = true; params = p }) (epfOf p)
   of-some h = rw (ne-eqb (p .iters) 0 h)
+
+pub epf-default-is : (lut scales : List Float) (four : EpfSigma) (m : Float) → lut ≡ sharpDefault → scales ≡ scaleDefault → four ≡ sigmaDefault → m ≡ decimal 1 1
+    → _≡_ {A = EdgePreservingFilter} (record { enabled = true; params = record { iters = 2; «sharp_lut» = lut; «channel_scale» = scales; sigma = four; «sigma_for_modular» = m } }) epfDefault
+unfolding epfDefault
+epf-default-is lut scales four m a b d e = rw (a, b, d, e)
 
 module _ (s : List ℕ) (on : Bool) (k : Cursor) (flag : Field) (pf : flag ≡ field s on bool 0 k) where
   pub sharp-is : (x0 x1 x2 x3 x4 x5 x6 x7 : FloatRead) (value : List Float)

@@ -1,10 +1,11 @@
 -- Laws of the restoration filter: the bundle, and what it is where nothing is sent.
 use Prim.Native.Nat.{ℕ}
-use mathlib.Core.Path.{_≡_, refl, sym, _∙_}
+use mathlib.Core.Path.{_≡_, refl, sym, _∙_, ap}
 use mathlib.Core.List.{List}
-use mathlib.Core.Bool.{Bool, true, false, _&&_}
+use mathlib.Core.Bool.{Bool, true, false, not, _&&_}
 use lib.Dec.{eqb}
 use lib.Ieee.{round}
+use borrow.Author.Tests.{not-true}
 use Rattle.bits.specs.declared.Cursor.{Cursor}
 use Rattle.bits.specs.declared.Field.{Field}
 use Rattle.bits.specs.Half.{half}
@@ -22,8 +23,8 @@ use Rattle.filter.specs.declared.FilterRead.{FilterRead}
 use Rattle.filter.specs.Values.{decimal, float, floats}
 use Rattle.filter.specs.Weights.{unbalanced}
 use Rattle.filter.specs.Gabor.{gaborDefault, gaborDisabled, gaborOf, channel, gabor, gaborRead}
-use Rattle.filter.specs.Epf.{sharpDefault, scaleDefault, sigmaDefault, epfDisabled, sharp, scale, sigma, epf, epfRead}
-use Rattle.filter.specs.Filter.{restoration, filterDisabled, filterRead}
+use Rattle.filter.specs.Epf.{sharpDefault, scaleDefault, sigmaDefault, epfDefault, epfDisabled, sharp, scale, sigma, epf, epfRead}
+use Rattle.filter.specs.Filter.{restoration, filterDefault, filterDisabled, filterRead}
 
 gabor-out : (on : Bool) (s : List ℕ) (c : Cursor) (x : GaborRead) → x ≡ gaborRead (read (gabor on) s c) → Reads (gabor on) s c (record { value = x .value; next = x .next })
 gabor-out on s c x e = record { is = rw e }
@@ -53,23 +54,6 @@ filter-is s on modular k all live g e next pa pl pg pe pn =
     (within-then _ _ _ _ _ (extensions-out b s (e .next) next (pn ∙ rw pl)) at-end))) in
     rw (whole .is)
 
--- the default filters
-abbrev pub epfDefault : EdgePreservingFilter
-epfDefault =
-    record {
-      enabled = true;
-      params = record {
-        iters = 2;
-        «sharp_lut» = sharpDefault;
-        «channel_scale» = scaleDefault;
-        sigma = sigmaDefault;
-        «sigma_for_modular» = decimal 1 1;
-      };
-    }
-
-abbrev pub filterDefault : RestorationFilter
-filterDefault = record { gab = gaborDefault; epf = epfDefault }
-
 gabor-off : (s : List ℕ) (c : Cursor) → Reads (gabor false) s c (record { value = gaborDefault; next = c })
 unfolding gabor channel gaborOf unbalanced read bind field failed
 gabor-off s c = record { is = refl }
@@ -79,10 +63,10 @@ unfolding half decimal round
 one = refl
 
 epf-off : (modular : Bool) (s : List ℕ) (c : Cursor) → Reads (epf false modular) s c (record { value = epfDefault; next = c })
-unfolding epf sharp scale sigma float floats times within read bind field
+unfolding epf epfDefault sharp scale sigma float floats times within read bind field
 epf-off modular s c = record { is = rw (← one) }
 
-extensions-off : (s : List ℕ) (c : Cursor) → Reads (extensions false) s c (record { value = 0; next = c })
+pub extensions-off : (s : List ℕ) (c : Cursor) → Reads (extensions false) s c (record { value = 0; next = c })
 unfolding extensions
 extensions-off s c =
     row-then _ (sym (field-off s _ 0 c))
@@ -92,7 +76,7 @@ extensions-off s c =
 -- Where the bundle isn't asked for, or its all_default bit is 1, both filters are the default ones and nothing more is read.
 pub filter-default : (s : List ℕ) (on modular : Bool) (c : Cursor) → (on && eqb (field s on bool 1 c .value) 0) ≡ false
     → _≡_ {A = Out RestorationFilter} (read (restoration on modular) s c) (record { value = filterDefault; next = field s on bool 1 c .next })
-unfolding restoration
+unfolding restoration filterDefault
 filter-default s on modular c h =
     let all = field s on bool 1 c in
     let whole : Reads (restoration on modular) s c (record { value = filterDefault; next = all .next }) =
@@ -102,6 +86,16 @@ filter-default s on modular c h =
     (within-then _ _ _ _ _ (epf-off modular s (all .next))
     (within-then _ _ _ _ _ (extensions-off s (all .next)) at-end)))) in
     whole .is
+
+-- the same of what a call answers
+pub filter-unread : (s : List ℕ) (on modular : Bool) (k : Cursor) (all : Field) (live : Bool) (d : RestorationFilter) → all ≡ field s on bool 1 k → live ≡ (on && eqb (all .value) 0)
+    → not live ≡ true → d ≡ filterDefault → _≡_ {A = FilterRead} (record { value = d; next = all .next }) (filterRead (read (restoration on modular) s k))
+filter-unread s on modular k all live d pa pl h pd =
+    rw (pd, pa) (sym (ap (λ (o : Out RestorationFilter). filterRead o) (filter-default s on modular k (rw pa at (sym pl ∙ not-true live h)))))
+
+pub both-default : (g : Gabor) (e : EdgePreservingFilter) → g ≡ gaborDefault → e ≡ epfDefault → _≡_ {A = RestorationFilter} (record { gab = g; epf = e }) filterDefault
+unfolding filterDefault
+both-default g e p q = rw (p, q)
 
 pub both-disabled : (g : Gabor) (e : EdgePreservingFilter) → g ≡ gaborDisabled → e ≡ epfDisabled → _≡_ {A = RestorationFilter} (record { gab = g; epf = e }) filterDisabled
 unfolding filterDisabled

@@ -29,6 +29,20 @@ unfoldable pub sigmaDefault : EpfSigma
 sigmaDefault =
     record { «quant_mul» = decimal 46 100; «pass0_sigma_scale» = decimal 9 10; «pass2_sigma_scale» = decimal 65 10; «border_sad_mul» = quotient 2 3 }
 
+-- two iterations, the default values, and 1.0 as the modular sigma
+unfoldable pub epfDefault : EdgePreservingFilter
+epfDefault =
+    record {
+      enabled = true;
+      params = record {
+        iters = 2;
+        «sharp_lut» = sharpDefault;
+        «channel_scale» = scaleDefault;
+        sigma = sigmaDefault;
+        «sigma_for_modular» = decimal 1 1;
+      };
+    }
+
 -- a disabled filter's values are all +0.0, its iterations 0
 unfoldable pub epfDisabled : EdgePreservingFilter
 epfDisabled =

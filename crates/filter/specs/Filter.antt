@@ -6,8 +6,8 @@ use Rattle.bits.specs.Table.{Table, Out, ends, row, bind, within}
 use Rattle.bits.specs.Extensions.{extensions}
 use Rattle.filter.specs.declared.RestorationFilter.{RestorationFilter}
 use Rattle.filter.specs.declared.FilterRead.{FilterRead}
-use Rattle.filter.specs.Gabor.{gabor, gaborDisabled}
-use Rattle.filter.specs.Epf.{epf, epfDisabled}
+use Rattle.filter.specs.Gabor.{gabor, gaborDefault, gaborDisabled}
+use Rattle.filter.specs.Epf.{epf, epfDefault, epfDisabled}
 
 -- The all_default bit, which isn't kept and isn't written, both filters and the extensions. Where it is 1, or the bundle isn't asked
 -- for, both filters are the default ones.
@@ -19,6 +19,10 @@ restoration on modular =
     bind (within (λ r. r .epf) (epf live modular)) λ epf.
     bind (within (λ r. tt) (extensions live)) λ skipped.
     ends (record { gab = gab; epf = epf })
+
+-- both default ones
+unfoldable pub filterDefault : RestorationFilter
+filterDefault = record { gab = gaborDefault; epf = epfDefault }
 
 -- both disabled
 unfoldable pub filterDisabled : RestorationFilter

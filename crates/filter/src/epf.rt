@@ -5,10 +5,13 @@ use crate::settings::EpfSigma;
 use crate::settings::read_scale_if;
 use crate::settings::read_sharp_if;
 use crate::settings::read_sigma_if;
+use crate::settings::scale_default;
+use crate::settings::sharp_default;
+use crate::settings::sigma_default;
 use bits::Cursor;
 ghost use mathlib.Core.Path.{_≡_};
 ghost use Rattle.bits.specs.Table.{read};
-ghost use Rattle.filter.specs.Epf.{epfDisabled, epfOf, epf, epfRead};
+ghost use Rattle.filter.specs.Epf.{epfDefault, epfDisabled, epfOf, epf, epfRead};
 
 pub struct EdgePreservingFilter {
     pub enabled: bool,
@@ -40,6 +43,25 @@ pub fn epf_disabled() -> EdgePreservingFilter
             channel_scale,
             sigma,
             sigma_for_modular: 0.0,
+        },
+    }
+}
+
+// `EdgePreservingFilter::default()`.
+pub fn epf_default() -> EdgePreservingFilter
+    ensures { λ r. ⌜ r ≡ epfDefault ⌝ }
+{
+    let sharp_lut = sharp_default();
+    let channel_scale = scale_default();
+    let sigma = sigma_default();
+    EdgePreservingFilter {
+        enabled: true,
+        params: EpfParams {
+            iters: 2,
+            sharp_lut,
+            channel_scale,
+            sigma,
+            sigma_for_modular: 1.0,
         },
     }
 }

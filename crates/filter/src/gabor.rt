@@ -28,7 +28,7 @@ pub struct ChannelRead {
 }
 
 // `Gabor::default()`.
-fn gabor_default() -> Gabor
+pub fn gabor_default() -> Gabor
     ensures { λ r. ⌜ r ≡ gaborDefault ⌝ }
 {
     let a = 0.115169525;

@@ -17,7 +17,7 @@ pub use settings::EpfSigma;
 pub use weights::is_unbalanced;
 ghost use mathlib.Core.Path.{_≡_};
 ghost use Rattle.bits.specs.Table.{read};
-ghost use Rattle.filter.specs.Filter.{restoration, filterDisabled, filterRead};
+ghost use Rattle.filter.specs.Filter.{restoration, filterDefault, filterDisabled, filterRead};
 
 pub struct RestorationFilter {
     pub gab: Gabor,
@@ -30,12 +30,27 @@ pub struct FilterRead {
     pub next: Cursor,
 }
 
-// The bundle `RestorationFilter`, where it is asked for; else both default filters. `modular`: the frame's encoding is Modular.
+// Both default filters: what a bundle stands for that isn't sent, or is all default.
+pub fn default_filter() -> RestorationFilter
+    ensures { λ r. ⌜ r ≡ filterDefault ⌝ }
+{
+    let gab = gabor::gabor_default();
+    let epf = epf::epf_default();
+    RestorationFilter { gab, epf }
+}
+
+// The bundle `RestorationFilter`, where it is asked for; else both default filters, and nothing more is looked at. `modular`: the frame's
+// encoding is Modular.
 pub fn read_restoration_filter_if(s: &[u8], c: Cursor, on: bool, modular: bool) -> FilterRead
     ensures { λ r. ⌜ r ≡ filterRead (read (restoration on modular) (now (s .entry)) c) ⌝ }
 {
     let all_default = bits::read_bool_if(s, c, on, 1);
     let live = bits::both(on, all_default.value == 0);
+    if !live {
+        let value = default_filter();
+        let next = all_default.next;
+        return FilterRead { value, next };
+    }
     let g = read_gabor_if(s, all_default.next, live);
     let e = read_epf_if(s, g.next, live, modular);
     let next = numbers::read_extensions_if(s, e.next, live);

@@ -37,7 +37,7 @@ pub struct SigmaRead {
 }
 
 // EPF_SHARP_LUT_DEFAULT.
-fn sharp_default() -> [f32; 8]
+pub fn sharp_default() -> [f32; 8]
     ensures { λ r. ⌜ r ≡ sharpDefault ⌝ }
 {
     [
@@ -53,14 +53,14 @@ fn sharp_default() -> [f32; 8]
 }
 
 // EPF_CHANNEL_SCALE_DEFAULT.
-fn scale_default() -> [f32; 3]
+pub fn scale_default() -> [f32; 3]
     ensures { λ r. ⌜ r ≡ scaleDefault ⌝ }
 {
     [40.0, 5.0, 3.5]
 }
 
 // `EpfSigma::default()`.
-fn sigma_default() -> EpfSigma
+pub fn sigma_default() -> EpfSigma
     ensures { λ r. ⌜ r ≡ sigmaDefault ⌝ }
 {
     EpfSigma {

@@ -1,5 +1,6 @@
 -- The entry: which refusal when, the record of what was read, and the lent buffers.
 use Prim.Native.Nat.{ℕ, _*_, _≤_, _<_}
+use native.Mathlib.Omega.{arith}
 use mathlib.Core.Path.{_≡_, refl, sym, _∙_, ap}
 use mathlib.Core.Bool.{Bool, true, false, not, _&&_, _||_}
 use mathlib.Core.List.{List, [], _∷_}
@@ -11,7 +12,10 @@ use borrow.Author.Tests.{lt-ltb, le-ltb, eq-eqb, ne-eqb}
 use Rattle.bits.specs.declared.Refusal.{Refusal}
 use Rattle.bits.specs.declared.Cursor.{Cursor}
 use Rattle.bits.specs.Refusals.{pick, refusal, none, start}
-use Rattle.bits.specs.Codec.{u, u32, signed}
+use Rattle.bits.specs.declared.Field.{Field}
+use Rattle.bits.specs.Codec.{u, u32, bool, field, signed}
+use Rattle.bits.specs.Bits.{bitsAt, there}
+use Rattle.bits.specs.Steps.{refusedAt, run}
 use Rattle.bits.specs.Table.{Out, ends, read, bind}
 use Rattle.filter.specs.declared.RestorationFilter.{RestorationFilter}
 use Rattle.filter.specs.Filter.{filterDisabled}
@@ -36,7 +40,9 @@ use Rattle.header.specs.Blending.{coversImage, resets, byColour, words, 
 use Rattle.header.specs.Header.{Header, Begun, Ended, sentUpsampling, shown, front, back, header, Fronted, Backed}
 use Rattle.header.specs.Questions.{colorChannels, blendingInfo, frameHeader, zeroHeader}
 use Rattle.header.specs.Entry.{badFacts, noRoom, judged, stands, refusalOf, refusedHeader, answered, kept, Headed}
+use Rattle.header.specs.Defaults.{Defaulted}
 use Rattle.header.proofs.Walks.{read-then}
+use Rattle.header.proofs.AllDefault.{header-off}
 
 -- 2, 1, 3
 module _ (n : ℕ) (f : Facts) (name upsampling blending : ℕ) (r : Refusal) where
@@ -88,6 +94,20 @@ header-law f s a b fa fb =
     ∙ read-then (back f (a .value .opening) (a .value .crop)) _ s (a .next) (read (back f (a .value .opening) (a .value .crop)) s (a .next)) refl
     ∙ rw (second, fb .next)
 
+one-by : (t : Bool) (v : ℕ) (all : Field) → all ≡ pick t (record { value = v; next = start 1 }) (refusedAt 4 0) → all .value ≡ 1 → all .next ≡ start 1
+one-by true v all e h = ap (λ (x : Field). x .next) e
+one-by false v all e h = absurd (omega (arith, ap (λ (x : Field). x .value) e, h))
+
+-- the first bit, where it is one: it is what the header's first field reads, and the cursor behind it has no fault
+module _ (s : List ℕ) (b : Cursor) (all : Field) (pb : b ≡ start 0) (pa : all ≡ field s true bool 0 b) (one : all .value ≡ 1) where
+  one-read : _≡_ {A = Field} (record { value = 1; next = all .next }) (field s true bool 1 (start 0))
+  unfolding field
+  one-read = ap (λ (v : ℕ). record { value = v; next = all .next }) (sym one) ∙ rw pb at pa
+
+  behind-one : all .next ≡ start 1
+  unfolding field run
+  behind-one = one-by (there s 0 1) (bitsAt s 0 1) all (rw pb at pa) one
+
 module _ (f : Facts) (s name upsampling blending : List ℕ) (before : Refusal) (eb : before ≡ judged (length s) f (length name) (length upsampling) (length blending)) where
   -- refused before anything was read
   pub refused-first : (before .number ≡ 0 → ⊥) → (r : HeaderAnswer) → r ≡ refusedHeader before → Headed f s r name name upsampling upsampling blending blending
@@ -95,6 +115,21 @@ module _ (f : Facts) (s name upsampling blending : List ℕ) (before : Refusal) 
   refused-first h r er =
       let no : eqb (judged (length s) f (length name) (length upsampling) (length blending) .number) 0 ≡ false = rw (← eb) (ne-eqb (before .number) 0 h) in
       record { answer = er ∙ rw (eb, no, no); named = rw (no, no); upsampled = rw (no, no); blended = rw (no, no) }
+
+  -- the header is the bit that says all default
+  pub default-all : before .number ≡ 0 → (b : Cursor) (all : Field) (r : HeaderAnswer) (upsampling' blending' : List ℕ) → b ≡ start 0 → all ≡ field s true bool 0 b → all .value ≡ 1
+      → Defaulted f (all .next .at) r upsampling upsampling' blending blending' → Headed f s r name name upsampling upsampling' blending blending'
+  unfolding answered
+  default-all go b all r upsampling' blending' pb pa one d =
+      let yes : eqb (judged (length s) f (length name) (length upsampling) (length blending) .number) 0 ≡ true = rw (← eb) (eq-eqb (before .number) 0 go) in
+      let is = header-off f s (all .next) (one-read s b all pb pa one) in
+      let ok : eqb (all .next .fault .number) 0 ≡ true = ap (λ (c : Cursor). eqb (c .fault .number) 0) (behind-one s b all pb pa one) in
+      record {
+        answer = d .answer ∙ rw (yes, is, ok);
+        named = rw (yes, is, ok);
+        upsampled = d .upsampled ∙ rw (yes, is, ok);
+        blended = d .blended ∙ rw (yes, is, ok);
+      }
 
   module _ (go : before .number ≡ 0) (a : FrontRead) (b : BackRead) (fa : Fronted f s a) (fb : Backed f (a .value .opening) (a .value .crop) s (a .next) b) where
     yes : eqb (judged (length s) f (length name) (length upsampling) (length blending) .number) 0 ≡ true

@@ -2,5 +2,6 @@ pub mod Walks
 pub mod Bundles
 pub mod Canvas
 pub mod Whole
+pub mod AllDefault
 pub mod Entering
 pub mod Once

@@ -5,4 +5,5 @@ pub mod Blending
 pub mod Closing
 pub mod Header
 pub mod Questions
+pub mod Defaults
 pub mod Entry

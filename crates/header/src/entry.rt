@@ -8,6 +8,7 @@ use crate::blending::BlendingInfo;
 use crate::blending::Decider;
 use crate::blending::covers_image;
 use crate::blending::read_extra_blending;
+use crate::defaults::give_default;
 use crate::opening::Opening;
 use crate::opening::upsampling_choices;
 use crate::parts::Back;
@@ -20,7 +21,9 @@ use crate::shape::Passes;
 use crate::shape::either_number;
 use bits::Refusal;
 use bits::accepted;
+use bits::begin;
 use bits::both;
+use bits::read_bool;
 use bits::refused;
 use filter::RestorationFilter;
 use filter::disabled_filter;
@@ -65,7 +68,7 @@ fn blending_info(b: Blending) -> BlendingInfo
 }
 
 // The record of what was read.
-fn assemble(f: Facts, a: Front, b: Back) -> FrameHeader
+pub fn assemble(f: Facts, a: Front, b: Back) -> FrameHeader
     ensures { λ r. ⌜ r ≡ frameHeader f a b ⌝ }
 {
     let o = a.opening;
@@ -219,6 +222,10 @@ pub fn read_frame_header(
     let before = judge(s.len(), f, name.len(), upsampling.len(), blending.len());
     if before.number != 0 {
         return refused_header(before);
+    }
+    let all = read_bool(s, begin(0));
+    if all.value == 1 {
+        return give_default(s, all.next, f, upsampling, blending);
     }
     let a = read_front(s, f);
     let front = a.value;

@@ -2,6 +2,7 @@
 mod arrays;
 mod blending;
 mod closing;
+mod defaults;
 mod entry;
 mod opening;
 mod parts;

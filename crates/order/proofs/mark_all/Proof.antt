@@ -56,10 +56,11 @@ loop-less c = search needs
 loop-again : tie.Need-loop-again Inv-loop μ-loop
 loop-again c =
     let a = c .before .before .before .before .before .before in
-    let l = c .before .before .before .before .before .loop in
-    (length-set (l .marks) _ 1 ∙ l .inv .0,
-    marked-more _ _ (a .pre .0) _ _ (l .inv .1) (c .before .before .before .before .loop-test .taken)
-    (c .before .before .if1 .left) (c .if2 .left))
+    let l = c .before .before .before .before .before .loop in (
+      length-set (l .marks) _ 1 ∙ l .inv .0,
+      marked-more _ _ (a .pre .0) _ _ (l .inv .1) (c .before .before .before .before .loop-test .taken)
+          (c .before .before .if1 .left) (c .if2 .left),
+    )
 
 same-length-3 : tie.Need-same-length-3 Inv-loop μ-loop
 same-length-3 c = search needs

@@ -1,0 +1,48 @@
+-- A header whose first bit says all default: every field has its default, and the header is that bit.
+use Prim.Native.Nat.{ℕ}
+use mathlib.Core.Path.{_≡_}
+use mathlib.Core.List.{List}
+use lib.ListN.{replicate}
+use lib.Seq.{sets}
+use Rattle.bits.specs.Refusals.{pick, none}
+use Rattle.filter.specs.Filter.{filterDefault}
+use Rattle.header.specs.declared.Facts.{Facts}
+use Rattle.header.specs.declared.parts.Front.{Front}
+use Rattle.header.specs.declared.parts.Back.{Back}
+use Rattle.header.specs.declared.entry.HeaderAnswer.{HeaderAnswer}
+use Rattle.header.specs.Blending.{words}
+use Rattle.header.specs.Header.{noBlending}
+use Rattle.header.specs.Questions.{frameHeader}
+
+-- a regular VarDCT frame of one pass, group size shift 1, as large as the image
+unfoldable pub defaultFront : Facts → Front
+defaultFront f = record {
+  opening = record {
+    «all_default» = 1;
+    «frame_type» = 0;
+    encoding = 0;
+    flags = 0;
+    «do_ycbcr» = 0;
+    jpeg0 = 0;
+    jpeg1 = 0;
+    jpeg2 = 0;
+    upsampling = 1;
+  };
+  quant = record { «group_size_shift» = 1; «x_qm_scale» = pick (f .xyb) 3 2; «b_qm_scale» = 2 };
+  passes = record { «num_passes» = 1; «num_ds» = 0; shift = replicate 10 0; downsample = replicate 4 0; «last_pass» = replicate 4 0 };
+  crop = record { «lf_level» = 0; «have_crop» = 0; x0 = 0; y0 = 0; width = f .width; height = f .height };
+}
+
+-- mode Replace, the last frame, no name, both default filters
+unfoldable pub defaultBack : Back
+defaultBack = record {
+  blending = noBlending;
+  closing = record { duration = 0; timecode = 0; «is_last» = 1; «save_as_reference» = 0; «save_before_ct» = 0; «name_length» = 0 };
+  filter = filterDefault;
+}
+
+-- what is answered: the record, the place behind that bit, and for each extra channel upsampling 1 and blending 0, 0, 0, 0
+pub record Defaulted (f : Facts) (at : ℕ) (r : HeaderAnswer) (upsampling upsampling' blending blending' : List ℕ) : Type 0 where
+  pub answer : r ≡ record { header = frameHeader f (defaultFront f) defaultBack; end = at; refusal = none }
+  pub upsampled : upsampling' ≡ sets upsampling 0 (replicate (f .extra) 1)
+  pub blended : blending' ≡ sets blending 0 (words (replicate (f .extra) noBlending))
