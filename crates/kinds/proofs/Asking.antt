@@ -53,9 +53,12 @@ module _ (g : Grid) (x y pass : ℕ) where
   sample-all h = rw (eq-eqb (g .sections) 1 h)
 
   -- the side may be written as another number that is the same
-  pub sample-group : (d : ℕ) → d ≡ g .side → (g .sections ≡ 1 → ⊥) → GroupPass pass (indexAt (g .columns) d x y) ≡ sampleKind g x y pass
+  pub sample-group-by : (d : ℕ) → d ≡ g .side → (g .sections ≡ 1 → ⊥) → GroupPass pass (indexAt (g .columns) d x y) ≡ sampleKind g x y pass
   unfolding sampleKind
-  sample-group d ed h = rw (ed, ne-eqb (g .sections) 1 h)
+  sample-group-by d ed h = rw (ed, ne-eqb (g .sections) 1 h)
+
+  pub sample-group : (g .sections ≡ 1 → ⊥) → GroupPass pass (indexAt (g .columns) (g .side) x y) ≡ sampleKind g x y pass
+  sample-group = sample-group-by (g .side) refl
 
 -- the frame has the sample's kind
 pub sample-has : (f : Frame) (g : Grid) → Counts f g → (x y pass : ℕ) → Sample g (f .«num_passes») x y pass → hasKind g (f .«num_passes») (numbersOf (sampleKind g x y pass)) ≡ true
@@ -69,7 +72,7 @@ sample-has f g n x y pass a =
     (λ t.
     let h : g .sections ≡ 1 → ⊥ = eqb-false (g .sections) 1 t in
     let k : KindNumbers = numbersOf (GroupPass pass group) in
-    rw (← sample-group g x y pass (g .side) refl h)
+    rw (← sample-group g x y pass h)
     (sym (has-pass g passes k h (eqb-false 4 2 refl) refl true
     (sym (and-both (lt-ltb pass passes (a .early)) (lt-ltb group (g .groups) (n .sample x y (a .across) (a .down))))))))
 

@@ -1,7 +1,7 @@
 -- `sample_kind`: All, or the group of the sample in its pass.
 use native.Mathlib.Omega.{arith}
 use borrow.Author.Needs.{needs}
-use Rattle.kinds.proofs.Asking.{sample-all, sample-group}
+use Rattle.kinds.proofs.Asking.{sample-all, sample-group-by}
 use Rattle.kinds.proofs.kinds.sample_kind.Statement.{statement}
 use Rattle.kinds.proofs.kinds.sample_kind.Tie as tie
 
@@ -24,7 +24,7 @@ add-group-idx : tie.Need-add-group-idx
 add-group-idx c = record { fits = omega (arith, rw (← (c .before .before .before .pre .1)) at (c .before .before .before .pre .3)) }
 
 returns-2 : tie.Need-returns-2
-returns-2 c = sample-group (c .before .before .before .args .g) (c .before .before .before .args .x) (c .before .before .before .args .y) (c .before .before .before .args .pass) _ (c .before .before .before .pre .1) (c .before .if1 .left)
+returns-2 c = sample-group-by (c .before .before .before .args .g) (c .before .before .before .args .x) (c .before .before .before .args .y) (c .before .before .before .args .pass) _ (c .before .before .before .pre .1) (c .before .if1 .left)
 
 pub sample-kind-spec : {M : Type 1} → statement M
 sample-kind-spec =
