@@ -138,6 +138,7 @@ pub enum Kind {
 }
 
 /// A status word apart: its number and its place.
+#[inline]
 fn parts(status: u64) -> Refusal {
     Refusal {
         number: (status % 256) as u32,
@@ -146,6 +147,7 @@ fn parts(status: u64) -> Refusal {
 }
 
 /// The words of an accepted answer, or the refusal.
+#[inline]
 fn accepted<const N: usize>(status: u64, words: [u64; N]) -> Result<[u64; N], Refusal> {
     if status == 0 {
         Ok(words)
@@ -179,6 +181,7 @@ macro_rules! ask {
 
 /// Reads a frame header: the record and the bit place after it. The name needs 1,071 bytes, `upsampling` a word and `blending` four words
 /// for each extra channel.
+#[inline]
 pub fn read_frame_header(
     s: &[u8],
     f: &Facts,
@@ -215,20 +218,25 @@ pub fn read_frame_header(
             floats.len(),
         )
     };
-    let words = accepted(status, words)?;
+    if status != 0 {
+        return Err(parts(status));
+    }
     Ok((header_of(&words, &signed, &floats), words[0]))
 }
 
 /// So many numbers from a place on.
+#[inline]
 fn numbers<const N: usize>(words: &[u64], at: usize) -> [u32; N] {
     std::array::from_fn(|i| words[at + i] as u32)
 }
 
+#[inline]
 fn reals<const N: usize>(floats: &[f32], at: usize) -> [f32; N] {
     std::array::from_fn(|i| floats[at + i])
 }
 
 /// The record out of its 51 words, two signed numbers and 22 floats.
+#[inline]
 fn header_of(words: &[u64; 51], signed: &[i32; 2], floats: &[f32; 22]) -> FrameHeader {
     let number = |i: usize| words[i] as u32;
     let yes = |i: usize| words[i] != 0;
@@ -278,6 +286,7 @@ fn header_of(words: &[u64; 51], signed: &[i32; 2], floats: &[f32; 22]) -> FrameH
 
 impl FrameHeader {
     /// The six numbers that geometry needs.
+    #[inline]
     pub fn frame(&self) -> Frame {
         Frame {
             width: self.width,
@@ -289,10 +298,12 @@ impl FrameHeader {
         }
     }
 
+    #[inline]
     pub fn is_keyframe(&self) -> bool {
         unsafe { raw::hingevale_is_keyframe(self.frame_type, self.is_last, self.duration) }
     }
 
+    #[inline]
     pub fn can_reference(&self) -> bool {
         unsafe {
             raw::hingevale_can_reference(
@@ -304,28 +315,34 @@ impl FrameHeader {
         }
     }
 
+    #[inline]
     pub fn noise(&self) -> bool {
         unsafe { raw::hingevale_noise(self.flags) }
     }
 
+    #[inline]
     pub fn patches(&self) -> bool {
         unsafe { raw::hingevale_patches(self.flags) }
     }
 
+    #[inline]
     pub fn splines(&self) -> bool {
         unsafe { raw::hingevale_splines(self.flags) }
     }
 
+    #[inline]
     pub fn use_lf_frame(&self) -> bool {
         unsafe { raw::hingevale_use_lf_frame(self.flags) }
     }
 
+    #[inline]
     pub fn skip_adaptive_lf_smoothing(&self) -> bool {
         unsafe { raw::hingevale_skip_adaptive_lf_smoothing(self.flags) }
     }
 }
 
 /// The grid of a frame.
+#[inline]
 pub fn measure(f: &Frame) -> Result<Grid, Refusal> {
     let w = ask!(11, hingevale_measure, f)?;
     let [width, height, side, lf_side, columns, rows, lf_columns, lf_rows, groups, lf_groups, sections] =
@@ -346,52 +363,64 @@ pub fn measure(f: &Frame) -> Result<Grid, Refusal> {
 }
 
 /// The frame's width in samples for an upsampling.
+#[inline]
 pub fn sample_width(f: &Frame, upsampling: u32) -> Result<u32, Refusal> {
     Ok(ask!(1, hingevale_sample_width, f, upsampling)?[0] as u32)
 }
 
 /// The frame's height in samples for an upsampling.
+#[inline]
 pub fn sample_height(f: &Frame, upsampling: u32) -> Result<u32, Refusal> {
     Ok(ask!(1, hingevale_sample_height, f, upsampling)?[0] as u32)
 }
 
 /// The numbers of the grid, one by one.
+#[inline]
 pub fn color_sample_width(f: &Frame) -> Result<u32, Refusal> {
     Ok(measure(f)?.width)
 }
 
+#[inline]
 pub fn color_sample_height(f: &Frame) -> Result<u32, Refusal> {
     Ok(measure(f)?.height)
 }
 
+#[inline]
 pub fn group_dim(f: &Frame) -> Result<u32, Refusal> {
     Ok(measure(f)?.side)
 }
 
+#[inline]
 pub fn lf_group_dim(f: &Frame) -> Result<u32, Refusal> {
     Ok(measure(f)?.lf_side)
 }
 
+#[inline]
 pub fn groups_per_row(f: &Frame) -> Result<u32, Refusal> {
     Ok(measure(f)?.columns)
 }
 
+#[inline]
 pub fn lf_groups_per_row(f: &Frame) -> Result<u32, Refusal> {
     Ok(measure(f)?.lf_columns)
 }
 
+#[inline]
 pub fn num_groups(f: &Frame) -> Result<u32, Refusal> {
     Ok(measure(f)?.groups)
 }
 
+#[inline]
 pub fn num_lf_groups(f: &Frame) -> Result<u32, Refusal> {
     Ok(measure(f)?.lf_groups)
 }
 
+#[inline]
 pub fn section_count(f: &Frame) -> Result<u32, Refusal> {
     Ok(measure(f)?.sections)
 }
 
+#[inline]
 fn rect_of(words: [u64; 4]) -> Rect {
     let [left, top, width, height] = words.map(|x| x as u32);
     Rect {
@@ -403,26 +432,31 @@ fn rect_of(words: [u64; 4]) -> Rect {
 }
 
 /// The clipped rectangle of a group.
+#[inline]
 pub fn group_rect(f: &Frame, group_idx: u32) -> Result<Rect, Refusal> {
     Ok(rect_of(ask!(4, hingevale_group_rect, f, group_idx)?))
 }
 
 /// The clipped rectangle of an LF group.
+#[inline]
 pub fn lf_group_rect(f: &Frame, lf_group_idx: u32) -> Result<Rect, Refusal> {
     Ok(rect_of(ask!(4, hingevale_lf_group_rect, f, lf_group_idx)?))
 }
 
 /// The group of a point, which may lie beyond the picture but inside an unclipped group.
+#[inline]
 pub fn group_idx_from_coord(f: &Frame, x: u32, y: u32) -> Result<u32, Refusal> {
     Ok(ask!(1, hingevale_group_idx_from_coord, f, x, y)?[0] as u32)
 }
 
 /// The LF group that holds a group.
+#[inline]
 pub fn lf_group_idx_from_group_idx(f: &Frame, group_idx: u32) -> Result<u32, Refusal> {
     Ok(ask!(1, hingevale_lf_group_idx_from_group_idx, f, group_idx)?[0] as u32)
 }
 
 /// Whether a region overlaps a group, unclipped.
+#[inline]
 pub fn is_group_collides_region(f: &Frame, group_idx: u32, region: Rect) -> Result<bool, Refusal> {
     let Rect {
         left,
@@ -444,6 +478,7 @@ pub fn is_group_collides_region(f: &Frame, group_idx: u32, region: Rect) -> Resu
 }
 
 /// Whether a region overlaps an LF group, unclipped.
+#[inline]
 pub fn is_lf_group_collides_region(
     f: &Frame,
     lf_group_idx: u32,
@@ -469,6 +504,7 @@ pub fn is_lf_group_collides_region(
 }
 
 /// What a section entry's status and words say.
+#[inline]
 fn toc_of(status: u64, words: [u64; 3]) -> TocRead {
     let r = parts(status);
     match r.number {
@@ -483,6 +519,7 @@ fn toc_of(status: u64, words: [u64; 3]) -> TocRead {
 }
 
 /// The first section entry: reads the permuted flag at a bit place, then the sizes. Each table needs a word for each section.
+#[inline]
 pub fn read_toc(s: &[u8], f: &Frame, place: u64, t: Tables) -> TocRead {
     let mut words = [0u64; 3];
     // Safe: each slice goes in as its own pointer and length.
@@ -513,6 +550,7 @@ pub fn read_toc(s: &[u8], f: &Frame, place: u64, t: Tables) -> TocRead {
 }
 
 /// The second section entry: a bit place and an order (sent number by section number), on from the padding.
+#[inline]
 pub fn read_toc_with_order(s: &[u8], f: &Frame, place: u64, lent: &[u32], t: Tables) -> TocRead {
     let mut words = [0u64; 3];
     // Safe: each slice goes in as its own pointer and length.
@@ -546,6 +584,7 @@ pub fn read_toc_with_order(s: &[u8], f: &Frame, place: u64, lent: &[u32], t: Tab
 
 impl Kind {
     /// A kind's number, pass and group.
+    #[inline]
     fn numbers(self) -> [u32; 3] {
         match self {
             Kind::All => [0, 0, 0],
@@ -559,6 +598,7 @@ impl Kind {
         }
     }
 
+    #[inline]
     fn of([kind, pass_idx, group_idx]: [u32; 3]) -> Kind {
         match kind {
             0 => Kind::All,
@@ -574,12 +614,14 @@ impl Kind {
 }
 
 /// A kind to its section number.
+#[inline]
 pub fn section_of_kind(f: &Frame, kind: Kind) -> Result<u32, Refusal> {
     let [number, pass_idx, group_idx] = kind.numbers();
     Ok(ask!(1, hingevale_section_of_kind, f, number, pass_idx, group_idx)?[0] as u32)
 }
 
 /// A section number to its kind.
+#[inline]
 pub fn kind_of(f: &Frame, section: u32) -> Result<Kind, Refusal> {
     Ok(Kind::of(
         ask!(3, hingevale_kind_of, f, section)?.map(|x| x as u32),
@@ -587,11 +629,13 @@ pub fn kind_of(f: &Frame, section: u32) -> Result<Kind, Refusal> {
 }
 
 /// A sample and a pass to their section number.
+#[inline]
 pub fn section_of_sample(f: &Frame, x: u32, y: u32, pass: u32) -> Result<u32, Refusal> {
     Ok(ask!(1, hingevale_section_of_sample, f, x, y, pass)?[0] as u32)
 }
 
 /// A section number to its offset and size, through tables that an entry filled.
+#[inline]
 pub fn section_at(
     f: &Frame,
     offsets: &[u64],
@@ -612,6 +656,7 @@ pub fn section_at(
 }
 
 /// A section number to its sent number, through the order.
+#[inline]
 pub fn sent_of_section(f: &Frame, order: &[u32], section: u32) -> Result<u32, Refusal> {
     Ok(ask!(
         1,
@@ -624,6 +669,7 @@ pub fn sent_of_section(f: &Frame, order: &[u32], section: u32) -> Result<u32, Re
 }
 
 /// A sent number to its section number, through the inverse.
+#[inline]
 pub fn section_of_sent(f: &Frame, inverse: &[u32], sent: u32) -> Result<u32, Refusal> {
     Ok(ask!(
         1,
@@ -636,6 +682,7 @@ pub fn section_of_sent(f: &Frame, inverse: &[u32], sent: u32) -> Result<u32, Ref
 }
 
 /// What the program `list` writes for an input (a facts line and a frame): how many bytes of `text` it is, or 3 where it doesn't fit.
+#[inline]
 pub fn list(input: &[u8], text: &mut [u8]) -> Result<usize, Refusal> {
     let mut words = [0u64; 1];
     // Safe: each slice goes in as its own pointer and length.
