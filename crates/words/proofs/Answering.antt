@@ -6,7 +6,7 @@ use mathlib.Core.List.{List}
 use lib.Dec.{leb, ltb, eqb}
 use lib.ListN.{length}
 use lib.Seq.{sets}
-use borrow.Author.Tests.{eq-eqb, ne-eqb}
+use borrow.Author.Tests.{eq-eqb, ne-eqb, not-true, not-false}
 use Rattle.bits.specs.declared.Refusal.{Refusal}
 use Rattle.bits.specs.Refusals.{refusal}
 use Rattle.words.specs.Status.{statusOf, isEarly, roomed}
@@ -15,15 +15,19 @@ use Rattle.words.specs.Answers.{Answer, answer, refusalFor, Given}
 pub early-by : (n : ℕ) (a b c : Bool) → a ≡ (leb 1 n && leb n 2) → b ≡ (leb 8 n && leb n 10) → c ≡ (a || b) → c ≡ isEarly n
 early-by n a b c ea eb ec = ec ∙ rw (ea, eb)
 
-module _ (r : Refusal) (short early both : Bool) (ee : early ≡ isEarly (r .number)) (eb : both ≡ (short && not early)) where
-  is : (short && not (isEarly (r .number))) ≡ both
-  is = sym (eb ∙ rw ee)
+module _ (r : Refusal) (short : Bool) where
+  pub enough-room : not short ≡ true → r ≡ roomed r short
+  enough-room h = rw (not-true short h)
 
-  pub no-room : both ≡ true → (a : Refusal) → a ≡ refusal 3 0 → a ≡ roomed r short
-  no-room h a e = e ∙ rw (is, h)
+  module _ (h : not short ≡ false) (early : Bool) (ee : early ≡ isEarly (r .number)) where
+    is : (short && not (isEarly (r .number))) ≡ not early
+    is = rw (not-false short h, ← ee)
 
-  pub as-it-was : both ≡ false → r ≡ roomed r short
-  as-it-was h = rw (is, h)
+    pub as-it-was : early ≡ true → r ≡ roomed r short
+    as-it-was e = rw (is, e)
+
+    pub no-room : early ≡ false → (a : Refusal) → a ≡ refusal 3 0 → a ≡ roomed r short
+    no-room e a ea = ea ∙ rw (is, e)
 
 module _ (a : Answer) (before : List ℕ) (r : Refusal) (er : r ≡ refusalFor a before) where
   pub given-refused : (r .number ≡ 0 → ⊥) → (word : ℕ) → word ≡ statusOf r → Given a before word before

@@ -27,10 +27,13 @@ fn is_early(number: u32) -> bool
 fn with_room(r: Refusal, short: bool) -> Refusal
     ensures { λ a. ⌜ a ≡ roomed r short ⌝ }
 {
-    if bits::both(short, !is_early(r.number)) {
-        bits::refused(3, 0)
-    } else {
+    if !short {
+        return r;
+    }
+    if is_early(r.number) {
         r
+    } else {
+        bits::refused(3, 0)
     }
 }
 
