@@ -1,6 +1,7 @@
 -- Laws that several proofs cite.
 pub mod Filling
 pub mod Answering
+pub mod Laying
 pub mod Wording
 pub mod Naming
 pub mod Recording

@@ -1,6 +1,7 @@
 // What the C functions hand in and out: numbers to records, records to words in lent slices, and the status word.
 mod answers;
 mod heads;
+mod layouts;
 mod records;
 mod sections;
 
@@ -8,6 +9,8 @@ pub use answers::status;
 pub use heads::give_record;
 pub use heads::has_room;
 pub use heads::no_record;
+pub use layouts::give_layout;
+pub use layouts::section_by;
 pub use records::frame;
 pub use records::give_grid;
 pub use records::give_kind;
