@@ -4,13 +4,17 @@ use order::SectionNumber;
 use order::SentNumber;
 use words::frame;
 use words::give_kind;
+use words::give_layout;
 use words::give_place;
 use words::give_section;
 use words::give_sent;
+use words::section_by;
 use words::section_named;
 ghost use Rattle.kinds.specs.Kinds.{kindOf};
 ghost use Rattle.kinds.specs.Lookups.{sectionOfSample, placeOf, sentOfSection, sectionOfSent};
+ghost use Rattle.layout.specs.Layouts.{layoutOf};
 ghost use Rattle.words.specs.Answers.{Given};
+ghost use Rattle.words.specs.Layouts.{layoutAnswer, sectionBy};
 ghost use Rattle.words.specs.Records.{frame, sectionNumber, sentNumber, sectionOfNumbers, sectionAnswer, sentAnswer, kindAnswer, placeAnswer};
 
 // A kind, by its number, pass and group, to its section number.
@@ -90,6 +94,44 @@ pub extern "C" fn hingevale_section_of_sample(
         num_passes,
     );
     give_section(kinds::section_of_sample(f, x, y, pass), out)
+}
+
+// A frame's layout: what a look-up of a sample needs of the frame, measured once.
+#[no_mangle]
+pub extern "C" fn hingevale_layout_of(
+    width: u32,
+    height: u32,
+    upsampling: u32,
+    lf_level: u32,
+    group_size_shift: u32,
+    num_passes: u32,
+    out: &mut [u64],
+) -> u64
+    ensures { λ r. ⌜ Given (layoutAnswer (layoutOf (frame width height upsampling «lf_level» «group_size_shift» «num_passes»))) (now (out .entry)) r (now (out .exit)) ⌝ }
+{
+    let f = frame(
+        width,
+        height,
+        upsampling,
+        lf_level,
+        group_size_shift,
+        num_passes,
+    );
+    give_layout(layout::layout_of(f), out)
+}
+
+// A sample and a pass to their section number, by a layout's words.
+#[no_mangle]
+pub extern "C" fn hingevale_section_in(
+    words: &[u64],
+    x: u32,
+    y: u32,
+    pass: u32,
+    out: &mut [u64],
+) -> u64
+    ensures { λ r. ⌜ Given (sectionAnswer (sectionBy (now (words .entry)) x y pass)) (now (out .entry)) r (now (out .exit)) ⌝ }
+{
+    give_section(section_by(words, x, y, pass), out)
 }
 
 // A section number to its offset and size, through tables that an entry filled.
