@@ -120,6 +120,14 @@ uint64_t hingevale_kind_of(HINGEVALE_FRAME, uint32_t section, uint64_t *out, siz
 /* A sample and a pass to the number of the section that holds them, in one word. Refusals: 8, 9, 10, 3, 14. */
 uint64_t hingevale_section_of_sample(HINGEVALE_FRAME, uint32_t x, uint32_t y, uint32_t pass, uint64_t *out, size_t out_len);
 
+/* A frame's layout, for looking up many samples of one frame: what a look-up needs of the frame, measured once, in eight words (width and height
+ * in samples, the power of two that is a group's side, groups in a row, groups, LF groups, sections, passes). Refusals: 8, 9, 10, 3. */
+uint64_t hingevale_layout_of(HINGEVALE_FRAME, uint64_t *out, size_t out_len);
+
+/* The same as hingevale_section_of_sample, by the words of the frame's layout, of which the lowest 32 bits count. Any eight words have an answer.
+ * Refusals: 3 (fewer than eight words, or no room), 14. */
+uint64_t hingevale_section_in(const uint64_t *words, size_t words_len, uint32_t x, uint32_t y, uint32_t pass, uint64_t *out, size_t out_len);
+
 /* A section number to its offset and size, in two words, through tables that an entry filled; longer tables are fine. Refusals: 8, 9, 10,
  * 3, 14. */
 uint64_t hingevale_section_at(HINGEVALE_FRAME, const uint64_t *offsets, size_t offsets_len, const uint32_t *sizes, size_t sizes_len,

@@ -3,7 +3,7 @@
 //!        bench CASE SIDE N     N runs of one case of one side (`ours`, `theirs` or `none`), for counting instructions
 mod inputs;
 
-use hingevale::{Facts, Frame, Tables, TocRead};
+use hingevale::{Facts, Frame, Layout, Tables, TocRead};
 use jxl_bitstream::Bitstream;
 use jxl_frame::FrameHeader as TheirHeader;
 use jxl_frame::data::{Toc as TheirToc, TocGroupKind};
@@ -56,7 +56,7 @@ fn header_case(name: &str, bytes: Vec<u8>, f: Facts) -> Case {
     let (input, known) = (bytes.clone(), image(&f));
     Case {
         name: name.into(),
-        runs: 20000,
+        runs: 4000,
         ours: Box::new(move || {
             let (h, end) = hingevale::read_frame_header(
                 black_box(&bytes),
@@ -96,7 +96,7 @@ fn toc_case(count: u32, permuted: bool) -> Case {
             "table of {count} sections{}",
             if permuted { ", permuted" } else { "" }
         ),
-        runs: (2_000_000 / (count + 100)).max(20),
+        runs: (400_000 / (count + 100)).max(4),
         ours: Box::new(move || {
             let t = Tables {
                 offsets: &mut offsets,
@@ -126,28 +126,31 @@ fn toc_case(count: u32, permuted: bool) -> Case {
     }
 }
 
-/// A sample and a pass to the number of their section.
+/// A sample and a pass to the number of their section: each side looks it up in what it made of the frame once, the layout and the Rust's table.
 fn look_up_case() -> Case {
     let f = inputs::frame(65536);
     let count = hingevale::section_count(&f).expect("a frame");
     let h = their_header(&f);
     let toc =
         TheirToc::parse(&mut Bitstream::new(&inputs::table(count, false)), &h).expect("accepted");
+    let layout = Layout::of(&f).expect("a frame");
     let (mut x, mut u) = (0u32, 0u32);
     let width = f.width;
     Case {
         name: "a sample to its section".into(),
-        runs: 200000,
+        runs: 40000,
         ours: Box::new(move || {
             x = (x + 12347) % width;
-            hingevale::section_of_sample(black_box(&f), black_box(x), 77, 0).expect("inside") as u64
+            black_box(&layout)
+                .section_of_sample(black_box(x), 77, 0)
+                .expect("inside") as u64
         }),
         theirs: Box::new(move || {
             u = (u + 12347) % width;
             let group_idx = black_box(&h)
                 .group_idx_from_coord(black_box(u), 77)
                 .expect("inside");
-            toc.group_index_bitstream_order(TocGroupKind::GroupPass {
+            black_box(&toc).group_index_bitstream_order(TocGroupKind::GroupPass {
                 pass_idx: 0,
                 group_idx,
             }) as u64
@@ -169,15 +172,21 @@ fn cases() -> Vec<Case> {
     all
 }
 
-/// The best of nine times, in nanoseconds a run.
+/// Nanoseconds a run of so many.
 fn time(runs: u32, f: &mut dyn FnMut() -> u64) -> f64 {
-    let mut best = f64::MAX;
-    for _ in 0..9 {
-        let begun = Instant::now();
-        for _ in 0..runs {
-            black_box(f());
-        }
-        best = best.min(begun.elapsed().as_secs_f64() * 1e9 / runs as f64);
+    let begun = Instant::now();
+    for _ in 0..runs {
+        black_box(f());
+    }
+    begun.elapsed().as_secs_f64() * 1e9 / runs as f64
+}
+
+/// The best of many times of each side, taken in turn, so that both meet the same moods of the machine.
+fn both(c: &mut Case) -> (f64, f64) {
+    let mut best = (f64::MAX, f64::MAX);
+    for _ in 0..45 {
+        best.0 = best.0.min(time(c.runs, &mut c.ours));
+        best.1 = best.1.min(time(c.runs, &mut c.theirs));
     }
     best
 }
@@ -202,7 +211,7 @@ fn main() {
     );
     for mut c in cases() {
         assert_eq!((c.ours)(), (c.theirs)(), "{}", c.name);
-        let (a, b) = (time(c.runs, &mut c.ours), time(c.runs, &mut c.theirs));
+        let (a, b) = both(&mut c);
         println!("{:<40} {a:>14.1} {b:>14.1} {:>8.2}", c.name, a / b);
     }
 }

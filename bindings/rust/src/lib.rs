@@ -634,6 +634,41 @@ pub fn section_of_sample(f: &Frame, x: u32, y: u32, pass: u32) -> Result<u32, Re
     Ok(ask!(1, hingevale_section_of_sample, f, x, y, pass)?[0] as u32)
 }
 
+/// What the look-up of a sample needs of a frame, measured once: for asking many samples of one frame.
+#[derive(Clone, Copy, Debug, PartialEq, Eq)]
+pub struct Layout {
+    words: [u64; 8],
+}
+
+impl Layout {
+    /// The layout of a frame.
+    #[inline]
+    pub fn of(f: &Frame) -> Result<Layout, Refusal> {
+        Ok(Layout {
+            words: ask!(8, hingevale_layout_of, f)?,
+        })
+    }
+
+    /// A sample and a pass to their section number, as `section_of_sample` has it for the layout's frame.
+    #[inline]
+    pub fn section_of_sample(&self, x: u32, y: u32, pass: u32) -> Result<u32, Refusal> {
+        let mut section = [0u64; 1];
+        // Safe: each slice goes in as its own pointer and length.
+        let status = unsafe {
+            raw::hingevale_section_in(
+                self.words.as_ptr(),
+                self.words.len(),
+                x,
+                y,
+                pass,
+                section.as_mut_ptr(),
+                section.len(),
+            )
+        };
+        Ok(accepted(status, section)?[0] as u32)
+    }
+}
+
 /// A section number to its offset and size, through tables that an entry filled.
 #[inline]
 pub fn section_at(

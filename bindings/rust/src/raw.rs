@@ -83,6 +83,15 @@ extern "C" {
         out: *mut u64,
         out_len: usize,
     ) -> u64;
+    pub fn hingevale_section_in(
+        words: *const u64,
+        words_len: usize,
+        x: u32,
+        y: u32,
+        pass: u32,
+        out: *mut u64,
+        out_len: usize,
+    ) -> u64;
     pub fn hingevale_list(
         input: *const u8,
         input_len: usize,
@@ -137,6 +146,7 @@ questions! {
     hingevale_section_of_kind(kind: u32, pass_idx: u32, group_idx: u32);
     hingevale_kind_of(section: u32);
     hingevale_section_of_sample(x: u32, y: u32, pass: u32);
+    hingevale_layout_of();
     hingevale_sent_of_section(order: *const u32, order_len: usize, section: u32);
     hingevale_section_of_sent(inverse: *const u32, inverse_len: usize, sent: u32);
 }

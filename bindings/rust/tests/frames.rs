@@ -141,6 +141,21 @@ fn the_example_frame() {
     assert_eq!(section_at(&f, &t.offsets, &t.sizes, 4), Ok((1022, 20)));
     assert_eq!(refused(section_of_sample(&f, 300, 0, 0)), (14, 0));
     assert_eq!(refused(section_of_sample(&f, 0, 0, 1)), (14, 0));
+    let layout = Layout::of(&f).unwrap();
+    for (x, y, pass) in [
+        (0, 0, 0),
+        (255, 99, 0),
+        (256, 0, 0),
+        (299, 99, 0),
+        (300, 0, 0),
+        (0, 100, 0),
+        (0, 0, 1),
+    ] {
+        assert_eq!(
+            layout.section_of_sample(x, y, pass),
+            section_of_sample(&f, x, y, pass)
+        );
+    }
     assert_eq!(
         refused(section_at(&f, &t.offsets[..4], &t.sizes, 9)),
         (3, 0)
@@ -314,7 +329,13 @@ fn listing() {
     assert_eq!(text[..due.len()], due[..]);
     assert!(text[due.len()..].iter().all(|&b| b == 7));
     let mut short = vec![7u8; due.len() - 1];
-    assert_eq!(list(&input, &mut short), Err(Refusal { number: 3, place: 0 }));
+    assert_eq!(
+        list(&input, &mut short),
+        Err(Refusal {
+            number: 3,
+            place: 0
+        })
+    );
     assert!(short.iter().all(|&b| b == 7));
     let mut just = vec![7u8; due.len()];
     assert_eq!(list(&input, &mut just), Ok(due.len()));

@@ -145,14 +145,17 @@ impl TocCase {
         let f = &self.frame;
         let h = header_of(f);
         let (w, t, passes) = (h.color_sample_width(), h.color_sample_height(), f.num_passes);
+        let layout = hingevale::Layout::of(f).expect("an accepted frame");
         for _ in 0..3 {
             let (x, y, pass_idx) = (r.below(w as u64) as u32, r.below(t as u64) as u32, r.below(passes as u64) as u32);
             let group_idx = h.group_idx_from_coord(x, y).expect("a sample inside");
             let kind = if kinds.len() == 1 { Kind::All } else { Kind::GroupPass { pass_idx, group_idx } };
             let section = kinds.iter().position(|k| *k == kind).unwrap() as u32;
             same("section_of_sample", hingevale::section_of_sample(f, x, y, pass_idx), Ok(section))?;
+            same("section_of_sample by the layout", layout.section_of_sample(x, y, pass_idx), Ok(section))?;
             for (x, y, p) in [(w, y, pass_idx), (x, t, pass_idx), (x, y, passes), (u32::MAX, y, 0)] {
                 due("section_of_sample", hingevale::section_of_sample(f, x, y, p), Err(refused(14)))?;
+                due("section_of_sample by the layout", layout.section_of_sample(x, y, p), Err(refused(14)))?;
             }
         }
         let (groups, lf, count) = (h.num_groups(), h.num_lf_groups(), kinds.len() as u32);
