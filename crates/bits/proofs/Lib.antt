@@ -3,4 +3,5 @@ pub mod Steps
 pub mod Codecs
 pub mod Tables
 pub mod Reading
+pub mod Numbered
 pub mod Once

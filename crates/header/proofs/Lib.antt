@@ -5,3 +5,4 @@ pub mod Whole
 pub mod AllDefault
 pub mod Entering
 pub mod Once
+pub mod Refusing

@@ -7,3 +7,4 @@ pub mod Naming
 pub mod Recording
 pub mod Once
 pub mod Telling
+pub mod Written

@@ -1,0 +1,46 @@
+-- Beside a status of 0 the header's record is written whole: what a caller may rest on who lends memory that holds nothing yet.
+use Prim.Native.Nat.{ℕ, _≤_}
+use native.Mathlib.Omega.{arith}
+use mathlib.Core.Path.{_≡_, sym, _∙_, ap}
+use mathlib.Core.Bool.{Bool, true, false}
+use mathlib.Core.List.{List}
+use lib.Dec.{eqb, ltb}
+use lib.ListN.{length}
+use borrow.Author.Tests.{eq-eqb}
+use Rattle.bits.specs.declared.Refusal.{Refusal}
+use Rattle.bits.specs.Refusals.{pick, refusal}
+use Rattle.header.specs.declared.Facts.{Facts}
+use Rattle.header.specs.declared.entry.HeaderAnswer.{HeaderAnswer}
+use Rattle.header.specs.Entry.{badFacts, judged, stands, answered}
+use Rattle.header.proofs.Refusing.{judged-known, answered-known}
+use Rattle.words.specs.Heading.{Buffers, HeadRead, recordRoom, noRecord, judgedAll, wordsAfter, signedAfter, floatsAfter}
+use Rattle.words.proofs.Telling.{none-told}
+
+of-both : (b : Bool) (x y : Refusal) → x .number ≤ 14 → y .number ≤ 14 → pick b x y .number ≤ 14
+of-both true x y h k = h
+of-both false x y h k = k
+
+judged-all-known : (s : List ℕ) (f : Facts) (b : Buffers) → judgedAll s f b .number ≤ 14
+unfolding judgedAll noRecord
+judged-all-known s f b =
+    of-both (recordRoom (length (b .numbers)) (length (b .signs)) (length (b .reals))) (judged (length s) f (length (b .name)) (length (b .upsampling)) (length (b .blending)))
+    (pick (ltb 16777216 (length s)) (refusal 2 0) (pick (badFacts f) (refusal 1 0) (refusal 3 0)))
+    (judged-known (length s) f (length (b .name)) (length (b .upsampling)) (length (b .blending)))
+    (of-both (ltb 16777216 (length s)) (refusal 2 0) (pick (badFacts f) (refusal 1 0) (refusal 3 0)) (omega arith) (of-both (badFacts f) (refusal 1 0) (refusal 3 0) (omega arith) (omega arith)))
+
+module _ (f : Facts) (s : List ℕ) (word : ℕ) (before after : Buffers) (h : HeadRead f s word before after) (zero : word ≡ 0) where
+  abbrev said : HeaderAnswer
+  said = answered f (judgedAll s f before) (stands f s)
+
+  ok : eqb (said .refusal .number) 0 ≡ true
+  ok = eq-eqb (said .refusal .number) 0 (none-told (said .refusal) (answered-known f s (judgedAll s f before) (judged-all-known s f before)) (sym (h .recorded .status) ∙ zero))
+
+  -- the 51 words, the two signed numbers and the 22 floats
+  pub words-written : after .numbers ≡ wordsAfter said (before .numbers)
+  words-written = h .recorded .numbers ∙ rw ok
+
+  pub signs-written : after .signs ≡ signedAfter (said .header) (before .signs)
+  signs-written = h .recorded .signs ∙ rw ok
+
+  pub reals-written : after .reals ≡ floatsAfter (said .header .«restoration_filter») (before .reals)
+  reals-written = h .recorded .reals ∙ rw ok
