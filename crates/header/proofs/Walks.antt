@@ -1,20 +1,26 @@
 -- Laws of arrays: what is left of a walk over one is what its definition has left to read.
-use Prim.Native.Nat.{ℕ, zero, suc, _+_, _-_, _*_, _≤_, _<_}
+use Prim.Native.Nat.{ℕ, zero, suc, _+_, _-_, _*_, _/_, _≤_, _<_}
 use native.Mathlib.Omega.{arith}
 use native.Mathlib.Numerals.{add-one}
 use native.Mathlib.Nat.{le-refl}
 use mathlib.Core.Path.{_≡_, refl, sym, _∙_, ap}
 use mathlib.Core.List.{List, [], _∷_, _++_, append-nil}
+use mathlib.Core.Logic.{by-cases}
+use native.Mathlib.Decide.{decLe}
 use lib.Dec.{ltb}
+use borrow.Author.Tests.{lt-ltb, le-ltb, ltb-true, le-leb, lt-leb}
 use lib.ListN.{length, set, take, drop, length-set, length-replicate, replicate}
 use lib.Seq.{sets, length-sets, sets-eq, drop-length}
 use Rattle.bits.specs.declared.Cursor.{Cursor}
 use Rattle.bits.specs.declared.Field.{Field}
-use mathlib.Core.Bool.{Bool, true}
+use mathlib.Core.Bool.{Bool, true, false, not, _&&_, false≢true}
+use Rattle.bits.specs.Refusals.{start, clear}
+use Rattle.bits.specs.Bits.{bitsAt, bitCount, there}
+use Rattle.bits.specs.Steps.{stopped, run}
 use Rattle.bits.specs.Codec.{Codec, u, field}
 use Rattle.bits.specs.Table.{Table, ends, row, fails, Out, read, bind, times}
 use Rattle.bits.proofs.Tables.{read-bind}
-use Rattle.bits.proofs.Reading.{field-lt}
+use Rattle.bits.proofs.Reading.{field-lt, fault-stays}
 use Rattle.header.specs.declared.blending.Blending.{Blending}
 use Rattle.header.specs.declared.blending.BlendingRead.{BlendingRead}
 use Rattle.header.specs.declared.blending.Decider.{Decider}
@@ -164,3 +170,96 @@ module _ (on : Bool) (n : ℕ) (full : Bool) (d : Decider) (s before : List ℕ)
           next = sym (l .next ∙ ap (λ (m : ℕ). read (times m i (each on full d)) s at .next) none);
           content = sym (l .content ∙ ap (λ (m : ℕ). sets table (i * 4) (words (read (times m i (each on full d)) s at .value))) none);
         }
+
+-- Bytes that are passed over: each is there or isn't, whatever it holds.
+module _ (s : List ℕ) (limit : ℕ) where
+  abbrev byte : ℕ → Table (List ℕ) ℕ
+  byte = here (u 8) limit 0
+
+  one-byte : (i : ℕ) (c : Cursor) → i < limit → clear c ≡ true → there s (c .at) 8 ≡ true → read (byte i) s c ≡ record { value = bitsAt s (c .at) 8; next = start (c .at + 8) }
+  unfolding element read field run
+  one-byte i c low ok t = rw (lt-ltb i limit low, ok, t)
+
+  no-byte : (i : ℕ) (c : Cursor) → i < limit → clear c ≡ true → there s (c .at) 8 ≡ false → read (byte i) s c ≡ record { value = 0; next = stopped 4 (c .at) }
+  unfolding element read field run
+  no-byte i c low ok t = rw (lt-ltb i limit low, ok, t)
+
+  after : (n i : ℕ) (c : Cursor) (o : Out ℕ) → o ≡ read (byte i) s c → read (times (suc n) i byte) s c .next ≡ read (times n (suc i) byte) s (o .next) .next
+  after n i c o e = ap (λ (x : Out (List ℕ)). x .next) (times-first n i byte s c o e)
+
+  -- all are there
+  bytes-there : (n i p : ℕ) → i + n ≤ limit → p + 8 * n ≤ bitCount s → read (times n i byte) s (start p) .next ≡ start (p + 8 * n)
+  unfolding times read
+  bytes-there zero i p low room = ap (λ (x : ℕ). start x) (omega arith)
+  bytes-there (suc n) i p low room =
+      let here-is : there s p 8 ≡ true = le-leb (p + 8) (bitCount s) (omega arith) in
+      after n i (start p) _ (sym (one-byte i (start p) (omega arith) refl here-is))
+      ∙ bytes-there n (suc i) (p + 8) (omega arith) (omega arith)
+      ∙ ap (λ (x : ℕ). start x) (omega arith)
+
+  -- some aren't
+  bytes-cut : (n i p : ℕ) → i + n ≤ limit → (bitCount s - p) / 8 < n → read (times n i byte) s (start p) .next ≡ stopped 4 (p + 8 * ((bitCount s - p) / 8))
+  bytes-cut zero i p low short = absurd (omega arith)
+  bytes-cut (suc n) i p low short =
+      by-cases (decLe (p + 8) (bitCount s))
+      (λ yes.
+      after n i (start p) _ (sym (one-byte i (start p) (omega arith) refl (le-leb (p + 8) (bitCount s) yes)))
+      ∙ bytes-cut n (suc i) (p + 8) (omega arith) (omega (arith, yes))
+      ∙ ap (λ (x : ℕ). stopped 4 x) (omega (arith, yes)))
+      (λ no.
+      after n i (start p) _ (sym (no-byte i (start p) (omega arith) refl (lt-leb (p + 8) (bitCount s) (omega (arith, no)))))
+      ∙ fault-stays (times n (suc i) byte) s (stopped 4 p) refl
+      ∙ ap (λ (x : ℕ). stopped 4 x) (omega (arith, no)))
+
+  -- a cursor with no fault counts by its place alone
+  same-byte : (i : ℕ) (c : Cursor) → i < limit → clear c ≡ true → read (byte i) s (start (c .at)) ≡ read (byte i) s c
+  unfolding element read field
+  same-byte i c low ok = rw (lt-ltb i limit low, ok)
+
+  at-start : (n i : ℕ) (c : Cursor) → i < limit → clear c ≡ true → read (times (suc n) i byte) s c .next ≡ read (times (suc n) i byte) s (start (c .at)) .next
+  at-start n i c low ok =
+      let o = read (byte i) s (start (c .at)) in
+      after n i c o (same-byte i c low ok) ∙ sym (after n i (start (c .at)) o refl)
+
+-- the cursor behind count bytes
+abbrev behind : List ℕ → ℕ → Cursor → Cursor
+behind s count c = read (array (u 8) count count 0 (λ (x : List ℕ) (i : ℕ). 0)) s c .next
+
+idle-by : (s : List ℕ) (count : ℕ) (c : Cursor) (some ok : Bool) → ltb 0 count ≡ some → clear c ≡ ok → not (some && ok) ≡ true → c ≡ behind s count c
+unfolding times read
+idle-by s zero c some ok es eo h = refl
+idle-by s (suc n) c true false es eo h = sym (fault-stays (array (u 8) (suc n) (suc n) 0 (λ (x : List ℕ) (i : ℕ). 0)) s c eo)
+idle-by s (suc n) c true true es eo h = absurd (false≢true h)
+idle-by s (suc n) c false ok es eo h = absurd (false≢true (sym es ∙ lt-ltb 0 (suc n) (omega arith)))
+
+pub passed-idle : (s : List ℕ) (count : ℕ) (c : Cursor) (i : Bool) → i ≡ not (ltb 0 count && clear c) → i ≡ true → c ≡ behind s count c
+passed-idle s count c i e h = idle-by s count c (ltb 0 count) (clear c) refl refl (sym e ∙ h)
+
+busy : (some ok : Bool) → not (some && ok) ≡ false → (some ≡ true) × (ok ≡ true)
+busy true true h = (refl, refl)
+busy true false h = absurd (false≢true (sym h))
+busy false ok h = absurd (false≢true (sym h))
+
+module _ (s : List ℕ) (c : Cursor) where
+  go-there : (count : ℕ) → ltb 0 count ≡ true → clear c ≡ true → c .at + 8 * count ≤ bitCount s → start (c .at + 8 * count) ≡ behind s count c
+  go-there zero some ok room = absurd (false≢true (sym (le-ltb 0 0 (omega arith)) ∙ some))
+  go-there (suc n) some ok room = sym (at-start s (suc n) n 0 c (omega arith) ok ∙ bytes-there s (suc n) (suc n) 0 (c .at) (omega arith) room)
+
+  go-cut : (count : ℕ) → ltb 0 count ≡ true → clear c ≡ true → (bitCount s - c .at) / 8 < count → stopped 4 (c .at + 8 * ((bitCount s - c .at) / 8)) ≡ behind s count c
+  go-cut zero some ok short = absurd (omega (arith, short))
+  go-cut (suc n) some ok short = sym (at-start s (suc n) n 0 c (omega arith) ok ∙ bytes-cut s (suc n) (suc n) 0 (c .at) (omega arith) short)
+
+  module _ (count : ℕ) (i : Bool) (e : i ≡ not (ltb 0 count && clear c)) (h : i ≡ false) where
+    live : (ltb 0 count ≡ true) × (clear c ≡ true)
+    live = busy (ltb 0 count) (clear c) (sym e ∙ h)
+
+    pub passed-there : (end : ℕ) → end ≡ bitCount s → c .at ≤ end → count ≤ (end - c .at) / 8 → (r : Cursor) → r ≡ start (c .at + 8 * count) → r ≡ behind s count c
+    passed-there end ee past room r er = er ∙ go-there count (live .0) (live .1) (omega (arith, past, room, ee))
+
+    pub passed-cut : (end : ℕ) → end ≡ bitCount s → (end - c .at) / 8 < count → (r : Cursor) → r ≡ stopped 4 (c .at + 8 * ((end - c .at) / 8)) → r ≡ behind s count c
+    passed-cut end ee short r er = er ∙ rw ee (go-cut count (live .0) (live .1) (rw ee at short))
+
+    pub passed-past : (end : ℕ) → end ≡ bitCount s → end < c .at → (r : Cursor) → r ≡ stopped 4 (c .at) → r ≡ behind s count c
+    passed-past end ee past r er =
+        let none : c .at ≡ c .at + 8 * ((end - c .at) / 8) = omega arith in
+        passed-cut end ee (omega (arith, ltb-true 0 count (live .0))) r (er ∙ ap (λ (x : ℕ). stopped 4 x) none)

@@ -83,11 +83,11 @@ front-law s f b a y w w' q p c pb pa pu pq pp pc =
     ∙ then-within (λ h. h .front .crop) (crop f (a .value)) _ s (p .next) (record { value = c .value; next = c .next }) (ap (λ (r : CropRead). record { value = r .value; next = r .next }) pc) in
     record { value = ap (λ (o : Out Begun). o .value .front) is; upsampling = ap (λ (o : Out Begun). o .value .upsampling) is; next = ap (λ (o : Out Begun). o .next) is }
 
-pub back-law : (s : List ℕ) (c : Cursor) (f : Facts) (o : Opening) (p : Crop) (b : BlendingRead) (x : Cursor) (w w' : List ℕ) (e : ClosingRead) (n : Cursor) (v v' : List ℕ) (r : FilterRead) (z : Cursor)
+pub back-law : (s : List ℕ) (c : Cursor) (f : Facts) (o : Opening) (p : Crop) (b : BlendingRead) (x : Cursor) (w w' : List ℕ) (e : ClosingRead) (n : Cursor) (r : FilterRead) (z : Cursor)
     → b ≡ blendingRead (read (blending (shown o) (not (eqb (f .extra) 0)) (coversImage f p) byOwn) s c)
     → Extras (shown o) (f .extra) (coversImage f p) (byColour (b .value .mode)) s (b .next) x w w'
     → e ≡ closingRead (read (closing f o (resets (b .value .mode) (coversImage f p))) s x)
-    → Arrayed (u 8) (e .value .«name_length») (e .value .«name_length») 0 s (e .next) n v v'
+    → n ≡ read (array (u 8) (e .value .«name_length») (e .value .«name_length») 0 (λ (x : List ℕ) (i : ℕ). 0)) s (e .next) .next
     → r ≡ filterRead (read (restoration (eqb (o .«all_default») 0) (eqb (o .encoding) 1)) s n)
     → z ≡ read (extensions (eqb (o .«all_default») 0)) s (r .next) .next
     → Backed f o p s c (record {
@@ -97,7 +97,7 @@ pub back-law : (s : List ℕ) (c : Cursor) (f : Facts) (o : Opening) (p : Crop) 
       next = z;
     })
 unfolding back read
-back-law s c f o p b x w w' e n v v' r z pb px pe pn pr pz =
+back-law s c f o p b x w w' e n r z pb px pe pn pr pz =
     let full = coversImage f p in
     let on = eqb (o .«all_default») 0 in
     let m = b .value .mode in
@@ -112,7 +112,7 @@ back-law s c f o p b x w w' e n v v' r z pb px pe pn pr pz =
     (rw (px .next) (sym (channels-any (λ i (h : Header). getD (h .blending) i _) (blending (shown o) true full (byColour m)) (f .extra) 0 s (b .next))))
     ∙ then-within (λ h. h .back .closing) (closing f o (resets m full)) _ s x (record { value = e .value; next = e .next }) (ap (λ (y : ClosingRead). record { value = y .value; next = y .next }) pe)
     ∙ read-then (array (u 8) k k 0 (λ h i. getD (h .name) i 0)) _ s (e .next) (record { value = name; next = n })
-    (array-passed (u 8) k k 0 (λ (h : Header) (i : ℕ). getD (h .name) i 0) s (e .next) n v v' pn)
+    (rw pn (array-any (u 8) k 0 (λ (x : List ℕ) (i : ℕ). 0) (λ (h : Header) (i : ℕ). getD (h .name) i 0) k 0 s (e .next)))
     ∙ then-within (λ h. h .back .filter) (restoration on (eqb (o .encoding) 1)) _ s n (record { value = r .value; next = r .next }) (ap (λ (y : FilterRead). record { value = y .value; next = y .next }) pr)
     ∙ then-within (λ h. tt) (extensions on) _ s (r .next) (record { value = ex .value; next = z }) (rw pz) in
     record {

@@ -2,14 +2,20 @@
 // serves to judge, on a table of one word, and to fill.
 use bits::Choices;
 use bits::Cursor;
+use bits::begin;
+use bits::bit_count;
+use bits::idle;
 use bits::read_bits;
 use bits::read_bits_if;
+use bits::stop;
 use numbers::read_u32_if;
 ghost use mathlib.Core.Path.{_≡_};
-ghost use Prim.Native.Nat.{_<_};
+ghost use mathlib.Core.List.{List};
+ghost use Prim.Native.Nat.{ℕ, _<_};
 ghost use lib.ListN.{set};
 ghost use Rattle.bits.specs.Codec.{u, u32};
-ghost use Rattle.header.specs.Arrays.{Arrayed};
+ghost use Rattle.bits.specs.Table.{read};
+ghost use Rattle.header.specs.Arrays.{array, Arrayed};
 
 // A word at its place, where the table has it.
 pub fn put(out: &mut [u32], k: usize, v: u32)
@@ -99,4 +105,25 @@ pub fn read_bytes(s: &[u8], c: Cursor, count: u32, out: &mut [u8]) -> Cursor
         i += 1;
     }
     at
+}
+
+// The place behind count bytes, without a look at them; where they aren't all there, the first that isn't is refused.
+pub fn pass_bytes(s: &[u8], c: Cursor, count: u32) -> Cursor
+    ensures { λ r. ⌜ r ≡ read (array (u 8) count count 0 (λ (x : List ℕ) (i : ℕ). 0)) (now (s .entry)) c .next ⌝ }
+{
+    if idle(c, 0 < count) {
+        return c;
+    }
+    let at = c.at;
+    let end = bit_count(s);
+    if end < at {
+        return stop(4, at);
+    }
+    let room = (end - at) / 8;
+    let n = count as u64;
+    if n <= room {
+        begin(at + 8 * n)
+    } else {
+        stop(4, at + 8 * room)
+    }
 }

@@ -1,6 +1,6 @@
 // The whole header in parts, read one after the other.
 use crate::Facts;
-use crate::arrays::read_bytes;
+use crate::arrays::pass_bytes;
 use crate::arrays::read_u32_array;
 use crate::blending::Blending;
 use crate::blending::Decider;
@@ -144,8 +144,7 @@ pub fn read_back(s: &[u8], c: Cursor, f: Facts, o: Opening, crop: Crop) -> BackR
     let e = read_closing(s, x, f, o, both(mode == 0, full));
     let closing = e.value;
     let name_at = e.next;
-    let mut byte = [0u8; 1];
-    let n = read_bytes(s, name_at, closing.name_length, &mut byte);
+    let n = pass_bytes(s, name_at, closing.name_length);
     let on = o.all_default == 0;
     let r = read_restoration_filter_if(s, n, on, o.encoding == 1);
     let filter = r.value;

@@ -1,4 +1,4 @@
--- One bundle after the other.
+-- `read_back`: one call a part, by the law of the whole.
 use borrow.Author.Needs.{needs}
 use mathlib.Core.Path.{_∙_}
 use Rattle.header.proofs.Whole.{back-law}
@@ -26,11 +26,8 @@ both-requires c κs = search needs
 read-closing-requires : tie.Need-read-closing-requires
 read-closing-requires c κs = search needs
 
-slice-aggregate-read-bytes : tie.Need-slice-aggregate-read-bytes
-slice-aggregate-read-bytes c = search needs
-
-read-bytes-requires : tie.Need-read-bytes-requires
-read-bytes-requires c κs = search needs
+pass-bytes-requires : tie.Need-pass-bytes-requires
+pass-bytes-requires c κs = search needs
 
 read-restoration-filter-if-requires : tie.Need-read-restoration-filter-if-requires
 read-restoration-filter-if-requires c κs = search needs
@@ -40,11 +37,11 @@ read-extensions-if-requires c κs = search needs
 
 returns : tie.Need-returns
 returns c =
-    back-law (c .before .before .before .before .before .before .before .before .before .before .before .before .before .before .before .before .before .before .before .before .before .before .args .s .now) (c .before .before .before .before .before .before .before .before .before .before .before .before .before .before .before .before .before .before .before .before .before .before .args .c) (c .before .before .before .before .before .before .before .before .before .before .before .before .before .before .before .before .before .before .before .before .before .before .args .f) (c .before .before .before .before .before .before .before .before .before .before .before .before .before .before .before .before .before .before .before .before .before .before .args .o) (c .before .before .before .before .before .before .before .before .before .before .before .before .before .before .before .before .before .before .before .before .before .before .args .crop) _ _ _ _ _ _ _ _ _ _
-    (c .before .before .before .before .before .before .before .before .before .before .before .before .before .before .before .before .before .read-blending-if .ensures ∙ rw (c .before .before .before .before .before .before .before .before .before .before .before .before .before .before .before .before .before .before .before .is-shown .ensures, c .before .before .before .before .before .before .before .before .before .before .before .before .before .before .before .before .before .before .before .before .covers-image .ensures))
-    (rw (c .before .before .before .before .before .before .before .before .before .before .before .before .before .before .before .before .before .before .before .is-shown .ensures, c .before .before .before .before .before .before .before .before .before .before .before .before .before .before .before .before .before .before .before .before .covers-image .ensures) at (c .before .before .before .before .before .before .before .before .before .before .before .before .before .read-extra-blending .ensures))
-    (c .before .before .before .before .before .before .before .before .before .before .read-closing .ensures ∙ rw (c .before .before .before .before .before .before .before .before .before .before .before .both .ensures, c .before .before .before .before .before .before .before .before .before .before .before .before .before .before .before .before .before .before .before .before .covers-image .ensures))
-    (c .before .before .before .before .before .before .read-bytes .ensures)
+    back-law (c .before .before .before .before .before .before .before .before .before .before .before .before .before .before .before .before .before .before .before .before .args .s .now) (c .before .before .before .before .before .before .before .before .before .before .before .before .before .before .before .before .before .before .before .before .args .c) (c .before .before .before .before .before .before .before .before .before .before .before .before .before .before .before .before .before .before .before .before .args .f) (c .before .before .before .before .before .before .before .before .before .before .before .before .before .before .before .before .before .before .before .before .args .o) (c .before .before .before .before .before .before .before .before .before .before .before .before .before .before .before .before .before .before .before .before .args .crop) _ _ _ _ _ _ _ _
+    (c .before .before .before .before .before .before .before .before .before .before .before .before .before .before .before .read-blending-if .ensures ∙ rw (c .before .before .before .before .before .before .before .before .before .before .before .before .before .before .before .before .before .is-shown .ensures, c .before .before .before .before .before .before .before .before .before .before .before .before .before .before .before .before .before .before .covers-image .ensures))
+    (rw (c .before .before .before .before .before .before .before .before .before .before .before .before .before .before .before .before .before .is-shown .ensures, c .before .before .before .before .before .before .before .before .before .before .before .before .before .before .before .before .before .before .covers-image .ensures) at (c .before .before .before .before .before .before .before .before .before .before .before .read-extra-blending .ensures))
+    (c .before .before .before .before .before .before .before .before .read-closing .ensures ∙ rw (c .before .before .before .before .before .before .before .before .before .both .ensures, c .before .before .before .before .before .before .before .before .before .before .before .before .before .before .before .before .before .before .covers-image .ensures))
+    (c .before .before .before .before .before .pass-bytes .ensures)
     (c .before .before .read-restoration-filter-if .ensures)
     (c .read-extensions-if .ensures)
 
@@ -59,8 +56,7 @@ read-back-spec =
     read-extra-blending-requires
     both-requires
     read-closing-requires
-    slice-aggregate-read-bytes
-    read-bytes-requires
+    pass-bytes-requires
     read-restoration-filter-if-requires
     read-extensions-if-requires
     returns)
