@@ -3,6 +3,8 @@
 /// The C functions as they are.
 pub mod raw;
 
+use std::mem::MaybeUninit;
+
 /// What a reader of the frame knows about the image.
 #[derive(Clone, Copy, Debug, PartialEq, Eq)]
 pub struct Facts {
@@ -189,10 +191,10 @@ pub fn read_frame_header(
     upsampling: &mut [u32],
     blending: &mut [u32],
 ) -> Result<(FrameHeader, u64), Refusal> {
-    let mut words = [0u64; 51];
-    let mut signed = [0i32; 2];
-    let mut floats = [0f32; 22];
-    // Safe: each slice goes in as its own pointer and length.
+    let mut words = MaybeUninit::<[u64; 51]>::uninit();
+    let mut signed = MaybeUninit::<[i32; 2]>::uninit();
+    let mut floats = MaybeUninit::<[f32; 22]>::uninit();
+    // Safe: each slice goes in as its own pointer and length, and the library reads none of these three.
     let status = unsafe {
         raw::hingevale_read_frame_header(
             s.as_ptr(),
@@ -210,18 +212,26 @@ pub fn read_frame_header(
             upsampling.len(),
             blending.as_mut_ptr(),
             blending.len(),
-            words.as_mut_ptr(),
-            words.len(),
-            signed.as_mut_ptr(),
-            signed.len(),
-            floats.as_mut_ptr(),
-            floats.len(),
+            words.as_mut_ptr().cast(),
+            51,
+            signed.as_mut_ptr().cast(),
+            2,
+            floats.as_mut_ptr().cast(),
+            22,
         )
     };
     if status != 0 {
         return Err(parts(status));
     }
-    Ok((header_of(&words, &signed, &floats), words[0]))
+    // Safe: beside a status of 0 all three are written whole, which is proved (crates/words/proofs/Written.antt).
+    let (words, signed, floats) = unsafe {
+        (
+            words.assume_init_ref(),
+            signed.assume_init_ref(),
+            floats.assume_init_ref(),
+        )
+    };
+    Ok((header_of(words, signed, floats), words[0]))
 }
 
 /// So many numbers from a place on.
