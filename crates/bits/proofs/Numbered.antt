@@ -47,7 +47,7 @@ low padding p = λ x. low-pick (eqb x 0) (gives 0) (refuses 12) tt (omega arith)
 low (skip n) p = tt
 
 -- what holds of both choices holds of the pick
-of-both : {A : Type 0} (P : A → Type 0) (b : Bool) (x y : A) → P x → P y → P (pick b x y)
+pub of-both : {A : Type 0} (P : A → Type 0) (b : Bool) (x y : A) → P x → P y → P (pick b x y)
 of-both P true x y h k = h
 of-both P false x y h k = k
 

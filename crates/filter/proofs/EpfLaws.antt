@@ -12,7 +12,7 @@ use Rattle.bits.specs.Refusals.{pick}
 use Rattle.bits.specs.Half.{half}
 use Rattle.bits.specs.Codec.{u, bool, f16, field}
 use Rattle.bits.specs.Table.{read}
-use Rattle.filter.proofs.Steps.{Reads, row-then, bind-then, within-then, times-then, times-end, at-end}
+use Rattle.bits.proofs.Rows.{Reads, row-then, bind-then, within-then, times-then, times-end, at-end}
 use Rattle.filter.specs.declared.floats.FloatRead.{FloatRead}
 use Rattle.filter.specs.declared.settings.EpfSigma.{EpfSigma}
 use Rattle.filter.specs.declared.settings.EpfParams.{EpfParams}

@@ -13,7 +13,7 @@ use Rattle.bits.specs.Codec.{bool, field}
 use Rattle.bits.specs.Table.{Out, read, failed, bind, within, times}
 use Rattle.bits.specs.Extensions.{extensions}
 use Rattle.bits.proofs.Tables.{field-off, lengths-none}
-use Rattle.filter.proofs.Steps.{Reads, row-then, bind-then, within-then, at-end}
+use Rattle.bits.proofs.Rows.{Reads, row-then, bind-then, within-then, at-end}
 use Rattle.filter.specs.declared.gabor.Gabor.{Gabor}
 use Rattle.filter.specs.declared.gabor.GaborRead.{GaborRead}
 use Rattle.filter.specs.declared.epf.EdgePreservingFilter.{EdgePreservingFilter}

@@ -11,7 +11,7 @@ use Rattle.bits.specs.declared.Field.{Field}
 use Rattle.bits.specs.Half.{half}
 use Rattle.bits.specs.Codec.{bool, f16, field}
 use Rattle.bits.specs.Table.{failed, read}
-use Rattle.filter.proofs.Steps.{Reads, row-then, bind-then, at-end}
+use Rattle.bits.proofs.Rows.{Reads, row-then, bind-then, at-end}
 use Rattle.filter.specs.declared.gabor.Gabor.{Gabor}
 use Rattle.filter.specs.declared.gabor.GaborRead.{GaborRead}
 use Rattle.filter.specs.declared.gabor.Channel.{Channel}

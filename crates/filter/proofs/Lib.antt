@@ -1,4 +1,3 @@
-pub mod Steps
 pub mod WeightLaws
 pub mod GaborLaws
 pub mod EpfLaws

@@ -8,7 +8,7 @@ use tiles::count;
 use tiles::div_ceil;
 use tiles::has;
 pub use tiles::is_aabb_collides;
-use tiles::judge;
+pub use tiles::judge;
 use tiles::rect_for;
 use tiles::touch_for;
 ghost use mathlib.Core.Path.{_≡_};

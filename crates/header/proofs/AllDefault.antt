@@ -14,7 +14,7 @@ use Rattle.bits.specs.Refusals.{none, start}
 use Rattle.bits.specs.Codec.{Codec, bool, u32, field}
 use Rattle.bits.specs.Table.{Table, Out, read, bind, within, times}
 use Rattle.bits.proofs.Tables.{field-off, read-within}
-use Rattle.filter.proofs.Steps.{Reads, row-then, bind-then, within-then, times-then, times-end, at-end}
+use Rattle.bits.proofs.Rows.{Reads, row-then, bind-then, within-then, times-then, times-end, at-end}
 use Rattle.filter.proofs.FilterLaws.{filter-default, extensions-off}
 use Rattle.header.specs.declared.Facts.{Facts}
 use Rattle.header.specs.declared.blending.Blending.{Blending}

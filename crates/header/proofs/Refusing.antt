@@ -1,13 +1,13 @@
 -- A header is refused with a number of the rules.
 use Prim.Native.Nat.{ℕ, _≤_}
 use native.Mathlib.Omega.{arith}
-use mathlib.Core.Bool.{Bool, true, false}
+use mathlib.Core.Bool.{Bool, true}
 use mathlib.Core.List.{List}
 use lib.Dec.{eqb, ltb}
 use Rattle.bits.specs.declared.Refusal.{Refusal}
 use Rattle.bits.specs.Refusals.{pick, refusal, none, start}
 use Rattle.bits.specs.Codec.{Codec}
-use Rattle.bits.proofs.Numbered.{Numbered, read-low, numbered-bind, numbered-inside, numbered-within, numbered-times, numbered-extensions}
+use Rattle.bits.proofs.Numbered.{Numbered, of-both, read-low, numbered-bind, numbered-inside, numbered-within, numbered-times, numbered-extensions}
 use Rattle.filter.proofs.Refusing.{restoration-numbered}
 use Rattle.header.specs.declared.Facts.{Facts}
 use Rattle.header.specs.declared.opening.Opening.{Opening}
@@ -79,11 +79,7 @@ header-numbered f =
     numbered-bind _ _ (front-numbered f) (λ b.
     numbered-bind _ _ (back-numbered f (b .front .opening) (b .front .crop)) (λ e. tt))
 
-of-both : {A : Type 0} (P : A → Type 0) (b : Bool) (x y : A) → P x → P y → P (pick b x y)
-of-both P true x y h k = h
-of-both P false x y h k = k
-
-abbrev Known : Refusal → Type 0
+abbrev pub Known : Refusal → Type 0
 Known r = r .number ≤ 14
 
 pub judged-known : (n : ℕ) (f : Facts) (name upsampling blending : ℕ) → judged n f name upsampling blending .number ≤ 14

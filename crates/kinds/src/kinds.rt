@@ -3,14 +3,14 @@
 use crate::KindAnswer;
 use crate::KindNumbers;
 use crate::TocGroupKind;
-use bits::Refusal;
 use grid::Frame;
 use grid::Grid;
+use grid::judge;
 use order::SectionAnswer;
 use order::SectionNumber;
 ghost use mathlib.Core.Path.{_≡_};
 ghost use Prim.Native.Nat.{_*_, _%_, _^_, _≤_, _<_};
-ghost use Rattle.grid.specs.Groups.{judge, indexAt};
+ghost use Rattle.grid.specs.Groups.{indexAt};
 ghost use Rattle.kinds.specs.Kinds.{numbersOf, hasKind, sectionNumber, kindAt, sectionOfKind, kindOf};
 ghost use Rattle.kinds.specs.Lookups.{sampleKind, hasSample, sectionOfSample};
 
@@ -47,21 +47,6 @@ pub fn kind_numbers(kind: TocGroupKind) -> KindNumbers
             pass_idx,
             group_idx,
         },
-    }
-}
-
-// The frame's own refusal, or 14 where it doesn't have what is asked for, or none.
-pub fn judge(g: Grid, known: bool) -> Refusal
-    ensures { λ r. ⌜ r ≡ judge g known ⌝ }
-{
-    let refusal = g.refusal;
-    if refusal.number != 0 {
-        return refusal;
-    }
-    if known {
-        bits::accepted()
-    } else {
-        bits::refused(14, 0)
     }
 }
 

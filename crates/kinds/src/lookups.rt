@@ -1,10 +1,10 @@
 // A section's offset and size out of two lent tables, in constant time; and from section numbers to sent numbers and back, through
 // the two orders.
 use crate::SectionPlace;
-use crate::kinds::judge;
 use bits::Refusal;
 use grid::Frame;
 use grid::Grid;
+use grid::judge;
 use order::SectionAnswer;
 use order::SectionNumber;
 use order::SentAnswer;

@@ -2,31 +2,27 @@
 use Prim.Native.Nat.{ℕ, _≤_}
 use native.Mathlib.Omega.{arith}
 use mathlib.Core.Path.{_≡_, sym, _∙_, ap}
-use mathlib.Core.Bool.{Bool, true, false}
+use mathlib.Core.Bool.{true}
 use mathlib.Core.List.{List}
 use lib.Dec.{eqb, ltb}
 use lib.ListN.{length}
 use borrow.Author.Tests.{eq-eqb}
-use Rattle.bits.specs.declared.Refusal.{Refusal}
 use Rattle.bits.specs.Refusals.{pick, refusal}
 use Rattle.header.specs.declared.Facts.{Facts}
 use Rattle.header.specs.declared.entry.HeaderAnswer.{HeaderAnswer}
 use Rattle.header.specs.Entry.{badFacts, judged, stands, answered}
-use Rattle.header.proofs.Refusing.{judged-known, answered-known}
+use Rattle.bits.proofs.Numbered.{of-both}
+use Rattle.header.proofs.Refusing.{Known, judged-known, answered-known}
 use Rattle.words.specs.Heading.{Buffers, HeadRead, recordRoom, noRecord, judgedAll, wordsAfter, signedAfter, floatsAfter}
 use Rattle.words.proofs.Telling.{none-told}
-
-of-both : (b : Bool) (x y : Refusal) → x .number ≤ 14 → y .number ≤ 14 → pick b x y .number ≤ 14
-of-both true x y h k = h
-of-both false x y h k = k
 
 judged-all-known : (s : List ℕ) (f : Facts) (b : Buffers) → judgedAll s f b .number ≤ 14
 unfolding judgedAll noRecord
 judged-all-known s f b =
-    of-both (recordRoom (length (b .numbers)) (length (b .signs)) (length (b .reals))) (judged (length s) f (length (b .name)) (length (b .upsampling)) (length (b .blending)))
+    of-both Known (recordRoom (length (b .numbers)) (length (b .signs)) (length (b .reals))) (judged (length s) f (length (b .name)) (length (b .upsampling)) (length (b .blending)))
     (pick (ltb 16777216 (length s)) (refusal 2 0) (pick (badFacts f) (refusal 1 0) (refusal 3 0)))
     (judged-known (length s) f (length (b .name)) (length (b .upsampling)) (length (b .blending)))
-    (of-both (ltb 16777216 (length s)) (refusal 2 0) (pick (badFacts f) (refusal 1 0) (refusal 3 0)) (omega arith) (of-both (badFacts f) (refusal 1 0) (refusal 3 0) (omega arith) (omega arith)))
+    (of-both Known (ltb 16777216 (length s)) (refusal 2 0) (pick (badFacts f) (refusal 1 0) (refusal 3 0)) (omega arith) (of-both Known (badFacts f) (refusal 1 0) (refusal 3 0) (omega arith) (omega arith)))
 
 module _ (f : Facts) (s : List ℕ) (word : ℕ) (before after : Buffers) (h : HeadRead f s word before after) (zero : word ≡ 0) where
   abbrev said : HeaderAnswer
