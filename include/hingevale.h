@@ -34,6 +34,7 @@ extern "C" {
 #define HINGEVALE_HEADER_FLOATS 22
 #define HINGEVALE_TOC_WORDS 3
 #define HINGEVALE_GRID_WORDS 11
+#define HINGEVALE_LAYOUT_WORDS 8
 
 /* Reads the frame header at the start of s. The facts: the image's width and height (1 to 1,073,741,824), whether it is XYB or grey, how
  * many extra channels it has (at most 256), whether it is an animation and has timecodes.

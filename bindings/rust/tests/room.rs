@@ -51,6 +51,63 @@ fn an_order_and_a_kind() {
 }
 
 #[test]
+fn a_layout() {
+    let mut words = [5u64; 8];
+    let mut of = |width, upsampling, n| unsafe {
+        hingevale_layout_of(width, 100, upsampling, 0, 1, 1, words.as_mut_ptr(), n)
+    };
+    assert_eq!(of(300, 3, 7), 8);
+    assert_eq!(of(0, 1, 7), 9);
+    assert_eq!(of(u32::MAX / 4, 1, 7), 10);
+    assert_eq!(of(300, 1, 7), 3);
+    assert_eq!(words, [5; 8]);
+    let mut of = |n| unsafe { hingevale_layout_of(300, 100, 1, 0, 1, 1, words.as_mut_ptr(), n) };
+    assert_eq!(of(8), 0);
+    // 300 by 100 samples, groups of side 2^8, two of them in a row, one LF group, five sections, one pass
+    assert_eq!(words, [300, 100, 8, 2, 2, 1, 5, 1]);
+    let mut out = [5u64];
+    let mut find = |words: &[u64], x, y, pass, n| unsafe {
+        hingevale_section_in(words.as_ptr(), words.len(), x, y, pass, out.as_mut_ptr(), n)
+    };
+    assert_eq!(find(&words[..7], 299, 99, 0, 1), 3);
+    assert_eq!(find(&words, 299, 99, 0, 0), 3);
+    assert_eq!(find(&words, 300, 99, 0, 1), 14);
+    assert_eq!(find(&words, 299, 100, 0, 1), 14);
+    assert_eq!(find(&words, 299, 99, 1, 1), 14);
+    // words of no frame: a side of 2^32, sums past 64 bits, no sections, all bits
+    for other in [
+        [300, 100, 32, 2, 2, 1, 5, 1],
+        [u32::MAX as u64; 8],
+        [300, 100, 8, 2, 2, 1, 0, 1],
+        [u64::MAX; 8],
+        [
+            u32::MAX as u64,
+            u32::MAX as u64,
+            0,
+            u32::MAX as u64,
+            u32::MAX as u64,
+            u32::MAX as u64,
+            u32::MAX as u64,
+            u32::MAX as u64,
+        ],
+    ] {
+        assert_eq!(find(&other, 299, 99, 0, 1), 14, "{other:?}");
+    }
+    assert_eq!(out, [5]);
+    let mut find = |words: &[u64], x| unsafe {
+        hingevale_section_in(words.as_ptr(), words.len(), x, 99, 0, out.as_mut_ptr(), 1)
+    };
+    assert_eq!(find(&words, 299), 0);
+    assert_eq!(out, [4]);
+    let high = words.map(|w| w + (7 << 32));
+    assert_eq!(
+        unsafe { hingevale_section_in(high.as_ptr(), 8, 255, 99, 0, out.as_mut_ptr(), 1) },
+        0
+    );
+    assert_eq!(out, [3]);
+}
+
+#[test]
 fn a_table() {
     let bytes = vec![0u8; 16777217];
     let (mut offsets, mut sizes, mut order, mut inverse) =
