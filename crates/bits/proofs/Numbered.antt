@@ -1,10 +1,11 @@
--- Every refusal of a reading has a number of the rules: at most 14. One induction for all field types and all tables.
+-- Every refusal of a reading has a number of the rules, at most 14, and a place no further than the end. One induction for all field types and all tables.
 use Prim.Native.Nat.{ℕ, zero, suc, _+_, _-_, _*_, _/_, _%_, _^_, _≤_}
 use native.Mathlib.Omega.{arith}
 use mathlib.Core.Path.{_≡_, refl}
 use mathlib.Core.List.{List}
 use mathlib.Core.Bool.{Bool, true, false, _&&_}
 use lib.Dec.{leb, eqb}
+use Rattle.bits.specs.declared.Refusal.{Refusal}
 use Rattle.bits.specs.declared.Cursor.{Cursor}
 use Rattle.bits.specs.declared.Field.{Field}
 use Rattle.bits.specs.Refusals.{pick, refusal, start, clear}
@@ -14,6 +15,7 @@ use Rattle.bits.specs.Steps.{Steps, gives, refuses, takes, passes, refus
 use Rattle.bits.specs.Codec.{Codec, u, bool, u32, cases, u64, f16, padding, skip, steps, chosen, more, field}
 use Rattle.bits.specs.Table.{Table, ends, row, fails, Out, failed, read, bind, within, times}
 use Rattle.bits.specs.Extensions.{lengths, extensions}
+use Rattle.bits.proofs.Reading.{field-within, failed-same}
 
 -- a field type refuses with a number of the rules
 abbrev Low : Steps → Type 0
@@ -83,6 +85,45 @@ read-low (ends a) n s c h = h
 read-low (row on k d v rest) n s c h = read-low (rest (field s on k d c .value)) (n (field s on k d c .value)) s (field s on k d c .next) (field-low s on k d c h)
 read-low (fails bad number back rest) n s c h = read-low rest (n .1) s (failed bad number back c) (failed-low bad number back c (n .0) h)
 
+-- and a place that is no further than the end, for every table
+run-near : (t : Steps) (s : List ℕ) (p q : ℕ) → p ≤ bitCount s → run t s p q .next .fault .place ≤ bitCount s
+unfolding run
+run-near (gives v) s p q h = omega arith
+run-near (refuses n) s p q h = h
+run-near (takes n f) s p q h =
+    of-both (λ (r : Field). r .next .fault .place ≤ bitCount s) (there s q n) (run (f (bitsAt s q n)) s p (q + n)) (refusedAt 4 p) (run-near (f (bitsAt s q n)) s p (q + n) h) h
+run-near (passes n t) s p q h =
+    of-both (λ (r : Field). r .next .fault .place ≤ bitCount s) (leb (q + n) (bitCount s)) (run t s p (q + n)) (refusedAt 4 p) (run-near t s p (q + n) h) h
+
+pub field-near : (s : List ℕ) (on : Bool) (k : Codec) (d : ℕ) (c : Cursor) → c .at ≤ bitCount s → c .fault .place ≤ bitCount s → field s on k d c .next .fault .place ≤ bitCount s
+unfolding field
+field-near s on k d c a h =
+    of-both (λ (r : Field). r .next .fault .place ≤ bitCount s) (on && clear c) (run (steps k (c .at)) s (c .at) (c .at)) (record { value = d; next = c })
+    (run-near (steps k (c .at)) s (c .at) (c .at) a) h
+
+failed-near : (s : List ℕ) (bad : Bool) (number back : ℕ) (c : Cursor) → c .at ≤ bitCount s → c .fault .place ≤ bitCount s → failed bad number back c .fault .place ≤ bitCount s
+unfolding failed
+failed-near s bad number back c a h =
+    of-both (λ (r : Cursor). r .fault .place ≤ bitCount s) (bad && clear c) (record { at = c .at; fault = refusal number (c .at - back) }) c (omega arith) h
+
+pub read-near : {R A : Type 0} (t : Table R A) (s : List ℕ) (c : Cursor) → c .at ≤ bitCount s → c .fault .place ≤ bitCount s → read t s c .next .fault .place ≤ bitCount s
+unfolding read
+read-near (ends a) s c p h = h
+read-near (row on k d v rest) s c p h =
+    read-near (rest (field s on k d c .value)) s (field s on k d c .next) (field-within s on k d c p) (field-near s on k d c p h)
+read-near (fails bad number back rest) s c p h =
+    read-near rest s (failed bad number back c) (rw (failed-same bad number back c) p) (failed-near s bad number back c p h)
+
+-- what a refusal of the rules is: a number of theirs, and a place within the longest input
+abbrev pub Known : Refusal → Type 0
+Known r = (r .number ≤ 14) × (r .place ≤ 134217728)
+
+-- whatever is read from a place within the input, its fault is one of the rules'
+pub read-known : {R A : Type 0} (t : Table R A) → Numbered t → (s : List ℕ) (p : ℕ) → p ≤ bitCount s → Known (read t s (start p) .next .fault)
+read-known t n s p h =
+    let near : read t s (start p) .next .fault .place ≤ bitCount s = read-near t s (start p) h (omega arith) in
+    (read-low t n s (start p) (omega arith), omega (arith, near))
+
 -- tables one after another, inside each other, and repeated
 pub numbered-bind : {R A B : Type 0} (t : Table R A) (f : A → Table R B) → Numbered t → ((a : A) → Numbered (f a)) → Numbered (bind t f)
 unfolding bind Numbered
@@ -98,6 +139,9 @@ numbered-within g (fails bad number back rest) n = (n .0, numbered-within g rest
 
 pub numbered-inside : {R S A B : Type 0} (g : R → S) (t : Table S A) (f : A → Table R B) → Numbered t → ((a : A) → Numbered (f a)) → Numbered (bind (within g t) f)
 numbered-inside g t f n h = numbered-bind (within g t) f (numbered-within g t n) h
+
+pub numbered-pick : {R A : Type 0} (b : Bool) (x y : Table R A) → Numbered x → Numbered y → Numbered (pick b x y)
+numbered-pick b x y h k = of-both Numbered b x y h k
 
 pub numbered-times : {R A : Type 0} (count i : ℕ) (f : ℕ → Table R A) → ((j : ℕ) → Numbered (f j)) → Numbered (times count i f)
 unfolding times Numbered

@@ -66,7 +66,7 @@ field-within s on k d c h =
     (λ e. run-within (steps k (c .at)) s (c .at) (c .at) h h)
     (λ e. h)
 
-failed-same : (bad : Bool) (number back : ℕ) (c : Cursor) → failed bad number back c .at ≡ c .at
+pub failed-same : (bad : Bool) (number back : ℕ) (c : Cursor) → failed bad number back c .at ≡ c .at
 unfolding failed
 failed-same bad number back c =
     picked (λ (r : Cursor). r .at ≡ c .at) (bad && clear c) (record { at = c .at; fault = refusal number (c .at - back) }) c (λ e. refl) (λ e. refl)

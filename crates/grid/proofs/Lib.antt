@@ -5,3 +5,4 @@ pub mod Answers
 pub mod Lookups
 pub mod Cover
 pub mod Exactly
+pub mod Refusing

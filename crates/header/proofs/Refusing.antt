@@ -1,13 +1,13 @@
--- A header is refused with a number of the rules.
-use Prim.Native.Nat.{ℕ, _≤_}
+-- A header is refused with a number of the rules, at a place within the input.
+use Prim.Native.Nat.{ℕ}
 use native.Mathlib.Omega.{arith}
 use mathlib.Core.Bool.{Bool, true}
 use mathlib.Core.List.{List}
 use lib.Dec.{eqb, ltb}
 use Rattle.bits.specs.declared.Refusal.{Refusal}
-use Rattle.bits.specs.Refusals.{pick, refusal, none, start}
+use Rattle.bits.specs.Refusals.{pick, refusal, none}
 use Rattle.bits.specs.Codec.{Codec}
-use Rattle.bits.proofs.Numbered.{Numbered, of-both, read-low, numbered-bind, numbered-inside, numbered-within, numbered-times, numbered-extensions}
+use Rattle.bits.proofs.Numbered.{Numbered, Known, of-both, read-known, numbered-bind, numbered-inside, numbered-within, numbered-times, numbered-extensions}
 use Rattle.filter.proofs.Refusing.{restoration-numbered}
 use Rattle.header.specs.declared.Facts.{Facts}
 use Rattle.header.specs.declared.opening.Opening.{Opening}
@@ -79,21 +79,18 @@ header-numbered f =
     numbered-bind _ _ (front-numbered f) (λ b.
     numbered-bind _ _ (back-numbered f (b .front .opening) (b .front .crop)) (λ e. tt))
 
-abbrev pub Known : Refusal → Type 0
-Known r = r .number ≤ 14
-
-pub judged-known : (n : ℕ) (f : Facts) (name upsampling blending : ℕ) → judged n f name upsampling blending .number ≤ 14
+pub judged-known : (n : ℕ) (f : Facts) (name upsampling blending : ℕ) → Known (judged n f name upsampling blending)
 unfolding judged
 judged-known n f name upsampling blending =
     let last : Refusal = pick (noRoom f name upsampling blending) (refusal 3 0) none in
-    of-both Known (ltb 16777216 n) (refusal 2 0) (pick (badFacts f) (refusal 1 0) last) (omega arith)
-    (of-both Known (badFacts f) (refusal 1 0) last (omega arith) (of-both Known (noRoom f name upsampling blending) (refusal 3 0) none (omega arith) (omega arith)))
+    of-both Known (ltb 16777216 n) (refusal 2 0) (pick (badFacts f) (refusal 1 0) last) (omega arith, omega arith)
+    (of-both Known (badFacts f) (refusal 1 0) last (omega arith, omega arith)
+    (of-both Known (noRoom f name upsampling blending) (refusal 3 0) none (omega arith, omega arith) (omega arith, omega arith)))
 
--- whatever the header entry answers, its refusal's number is one of the rules', or 0
-pub answered-known : (f : Facts) (s : List ℕ) (before : Refusal) → before .number ≤ 14 → answered f before (stands f s) .refusal .number ≤ 14
+-- whatever the header entry answers, its refusal is one of the rules', or none
+pub answered-known : (f : Facts) (s : List ℕ) (before : Refusal) → Known before → Known (answered f before (stands f s) .refusal)
 unfolding answered refusedHeader
 answered-known f s before k =
     let h = stands f s in
-    let first : Known (refusalOf before h) =
-    of-both Known (eqb (before .number) 0) (h .next .fault) before (read-low (header f) (header-numbered f) s (start 0) (omega arith)) k in
-    of-both (λ (a : HeaderAnswer). Known (a .refusal)) (eqb (refusalOf before h .number) 0) _ (refusedHeader (refusalOf before h)) (omega arith) first
+    let first : Known (refusalOf before h) = of-both Known (eqb (before .number) 0) (h .next .fault) before (read-known (header f) (header-numbered f) s 0 (omega arith)) k in
+    of-both (λ (a : HeaderAnswer). Known (a .refusal)) (eqb (refusalOf before h .number) 0) _ (refusedHeader (refusalOf before h)) (omega arith, omega arith) first

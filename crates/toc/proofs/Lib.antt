@@ -6,3 +6,4 @@ pub mod Accepted
 pub mod Found
 pub mod Bytes
 pub mod Demand
+pub mod Refusing
