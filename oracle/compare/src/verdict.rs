@@ -3,6 +3,7 @@
 use hingevale::Refusal;
 use std::collections::{BTreeMap, BTreeSet};
 use std::fmt::Debug;
+use std::time::{Duration, Instant};
 
 /// `Ok` has the class it is counted under, `Err` the difference.
 pub type Verdict = Result<String, String>;
@@ -32,14 +33,12 @@ pub trait Case: Sized {
     fn show(&self) -> String;
 }
 
-/// The smallest input on this way down that still differs, or how far 20,000 tries come: a width of a thousand million goes down one by one at last.
+/// The smallest input on this way down that still differs, or as far as two seconds come: a width of a thousand million goes down one by one at
+/// last, and a table of 65,536 sections takes its time at each try.
 pub fn minimised<C: Case>(mut case: C) -> C {
-    let mut tries = 20_000;
+    let begun = Instant::now();
     loop {
-        let smaller = case.smaller().into_iter().take_while(|_| {
-            tries -= 1;
-            tries >= 0
-        });
+        let smaller = case.smaller().into_iter().take_while(|_| begun.elapsed() < Duration::from_secs(2));
         match smaller.into_iter().find(|c| c.judge().is_err()) {
             Some(c) => case = c,
             None => return case,
