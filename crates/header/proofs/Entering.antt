@@ -39,7 +39,7 @@ use Rattle.header.specs.Opening.{upsamplings}
 use Rattle.header.specs.Blending.{coversImage, resets, byColour, words, extras, Extras}
 use Rattle.header.specs.Header.{Header, Begun, Ended, sentUpsampling, shown, front, back, header, Fronted, Backed}
 use Rattle.header.specs.Questions.{colorChannels, blendingInfo, frameHeader, zeroHeader}
-use Rattle.header.specs.Entry.{badFacts, noRoom, judged, stands, refusalOf, refusedHeader, answered, kept, Headed}
+use Rattle.header.specs.Entry.{badFacts, noRoom, judged, stands, refusalOf, refusedHeader, answered, kept, Filled, Headed}
 use Rattle.header.specs.Defaults.{Defaulted}
 use Rattle.header.proofs.Walks.{read-then}
 use Rattle.header.proofs.AllDefault.{header-off}
@@ -146,22 +146,28 @@ module _ (f : Facts) (s name upsampling blending : List ℕ) (before : Refusal) 
         record { answer = er ∙ rw (yes, is, no); named = rw (yes, is, no); upsampled = rw (yes, is, no); blended = rw (yes, is, no) }
 
     -- accepted
-    pub accepted-all : b .next .fault .number ≡ 0 → (hd : FrameHeader) (acc : Refusal) (name' upsampling' blending' : List ℕ) (w e n : Cursor)
-        → hd ≡ frameHeader f (a .value) (b .value) → acc ≡ none
-        → Arrayed (u32 upsamplings) (sentUpsampling f (a .value .opening)) (f .extra) 1 s (a .«upsampling_at») w upsampling upsampling'
-        → Extras (shown (a .value .opening)) (f .extra) (coversImage f (a .value .crop)) (byColour (b .value .blending .mode)) s (b .«blending_at») e blending blending'
-        → Arrayed (u 8) (b .value .closing .«name_length») (b .value .closing .«name_length») 0 s (b .«name_at») n name name'
-        → Headed f s (record { header = hd; end = b .next .at; refusal = acc }) name name' upsampling upsampling' blending blending'
+    pub accepted-all : b .next .fault .number ≡ 0 → (r : HeaderAnswer) (name' upsampling' blending' : List ℕ) → Filled f s a b r name name' upsampling upsampling' blending blending'
+        → Headed f s r name name' upsampling upsampling' blending blending'
     unfolding answered
-    accepted-all h hd acc name' upsampling' blending' w e n eh ea wu we wn =
+    accepted-all h r name' upsampling' blending' fl =
         let ok : eqb (b .next .fault .number) 0 ≡ true = eq-eqb (b .next .fault .number) 0 h in
         let all = header-law f s a b fa fb in
         record {
-          answer = rw (yes, all, ok, eh, ea);
-          named = wn .words ∙ rw (yes, all, ok);
-          upsampled = wu .words ∙ rw (yes, all, ok);
-          blended = we .content ∙ rw (yes, all, ok);
+          answer = fl .answer ∙ rw (yes, all, ok);
+          named = fl .named ∙ rw (yes, all, ok);
+          upsampled = fl .upsampled ∙ rw (yes, all, ok);
+          blended = fl .blended ∙ rw (yes, all, ok);
         }
+
+-- the record and the arrays of what was read
+pub filled-by : (f : Facts) (s : List ℕ) (a : FrontRead) (b : BackRead) (hd : FrameHeader) (acc : Refusal) (name name' upsampling upsampling' blending blending' : List ℕ) (w e n : Cursor)
+    → hd ≡ frameHeader f (a .value) (b .value) → acc ≡ none
+    → Arrayed (u32 upsamplings) (sentUpsampling f (a .value .opening)) (f .extra) 1 s (a .«upsampling_at») w upsampling upsampling'
+    → Extras (shown (a .value .opening)) (f .extra) (coversImage f (a .value .crop)) (byColour (b .value .blending .mode)) s (b .«blending_at») e blending blending'
+    → Arrayed (u 8) (b .value .closing .«name_length») (b .value .closing .«name_length») 0 s (b .«name_at») n name name'
+    → Filled f s a b (record { header = hd; end = b .next .at; refusal = acc }) name name' upsampling upsampling' blending blending'
+filled-by f s a b hd acc name name' upsampling upsampling' blending blending' w e n eh ea wu we wn =
+    record { answer = rw (eh, ea); named = wn .words; upsampled = wu .words; blended = we .content }
 
 -- the record of what was read
 pub assembled : (f : Facts) (a : Front) (b : Back) (k : FrameType) (e : Encoding) (ch : ℕ) (x y : ℤ) (i : BlendingInfo) (full r : Bool)

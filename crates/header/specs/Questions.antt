@@ -14,6 +14,7 @@ use Rattle.header.specs.declared.FrameHeader.{FrameHeader}
 use Rattle.header.specs.declared.blending.Blending.{Blending}
 use Rattle.header.specs.declared.blending.BlendingInfo.{BlendingInfo}
 use Rattle.header.specs.declared.opening.Opening.{Opening}
+use Rattle.header.specs.declared.shape.Passes.{Passes}
 use Rattle.header.specs.declared.parts.Front.{Front}
 use Rattle.header.specs.declared.parts.Back.{Back}
 use Rattle.types.specs.declared.FrameType.the-variants.{RegularFrame}
@@ -60,6 +61,9 @@ frameHeader f a b = record {
   «restoration_filter» = b .filter;
 }
 
+abbrev pub noPasses : Passes
+noPasses = record { «num_passes» = 0; «num_ds» = 0; shift = replicate 10 0; downsample = replicate 4 0; «last_pass» = replicate 4 0 }
+
 -- what stands beside a refusal
 unfoldable pub zeroHeader : FrameHeader
 zeroHeader = record {
@@ -73,7 +77,7 @@ zeroHeader = record {
   «group_size_shift» = 0;
   «x_qm_scale» = 0;
   «b_qm_scale» = 0;
-  passes = record { «num_passes» = 0; «num_ds» = 0; shift = replicate 10 0; downsample = replicate 4 0; «last_pass» = replicate 4 0 };
+  passes = noPasses;
   «lf_level» = 0;
   «have_crop» = false;
   x0 = pos 0;

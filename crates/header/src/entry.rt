@@ -12,7 +12,9 @@ use crate::defaults::give_default;
 use crate::opening::Opening;
 use crate::opening::upsampling_choices;
 use crate::parts::Back;
+use crate::parts::BackRead;
 use crate::parts::Front;
+use crate::parts::FrontRead;
 use crate::parts::is_shown;
 use crate::parts::read_back;
 use crate::parts::read_front;
@@ -37,8 +39,8 @@ use types::encoding_of;
 use types::frame_type_of;
 ghost use mathlib.Core.Path.{_≡_};
 ghost use lib.ListN.{length};
-ghost use Rattle.header.specs.Questions.{colorChannels, blendingInfo, frameHeader, zeroHeader};
-ghost use Rattle.header.specs.Entry.{badFacts, judged, refusedHeader, Headed};
+ghost use Rattle.header.specs.Questions.{colorChannels, blendingInfo, frameHeader, noPasses, zeroHeader};
+ghost use Rattle.header.specs.Entry.{badFacts, judged, refusedHeader, Filled, Headed};
 
 // The record with the bit place after the header, or a refusal beside the zero record.
 pub struct HeaderAnswer {
@@ -118,22 +120,28 @@ pub fn assemble(f: Facts, a: Front, b: Back) -> FrameHeader
     }
 }
 
-// What stands beside a refusal.
-fn zero_header() -> FrameHeader
-    ensures { λ r. ⌜ r ≡ zeroHeader ⌝ }
+fn no_passes() -> Passes
+    ensures { λ r. ⌜ r ≡ noPasses ⌝ }
 {
-    let restoration_filter = disabled_filter();
     let shift = [0u32; 10];
     let downsample = [0u32; 4];
     let last_pass = [0u32; 4];
-    let jpeg_upsampling = [0u32; 3];
-    let passes = Passes {
+    Passes {
         num_passes: 0,
         num_ds: 0,
         shift,
         downsample,
         last_pass,
-    };
+    }
+}
+
+// What stands beside a refusal.
+fn zero_header() -> FrameHeader
+    ensures { λ r. ⌜ r ≡ zeroHeader ⌝ }
+{
+    let restoration_filter = disabled_filter();
+    let passes = no_passes();
+    let jpeg_upsampling = [0u32; 3];
     let info = BlendingInfo {
         mode: BlendMode::Replace,
         alpha_channel: 0,
@@ -209,35 +217,23 @@ fn judge(n: usize, f: Facts, name: usize, upsampling: usize, blending: usize) ->
     if short { refused(3, 0) } else { accepted() }
 }
 
-// The entry: 2, 1, 3, then the first fault in reading order. The lent buffers are written once all is known to be good.
-pub fn read_frame_header(
+// The record of a header that was read, and its arrays, read again into the lent buffers.
+fn give_read(
     s: &[u8],
     f: Facts,
+    a: FrontRead,
+    b: BackRead,
     name: &mut [u8],
     upsampling: &mut [u32],
     blending: &mut [u32],
 ) -> HeaderAnswer
-    ensures { λ r. ⌜ Headed f (now (s .entry)) r (now (name .entry)) (now (name .exit)) (now (upsampling .entry)) (now (upsampling .exit)) (now (blending .entry)) (now (blending .exit)) ⌝ }
+    ensures { λ r. ⌜ Filled f (now (s .entry)) a b r (now (name .entry)) (now (name .exit)) (now (upsampling .entry)) (now (upsampling .exit)) (now (blending .entry)) (now (blending .exit)) ⌝ }
 {
-    let before = judge(s.len(), f, name.len(), upsampling.len(), blending.len());
-    if before.number != 0 {
-        return refused_header(before);
-    }
-    let all = read_bool(s, begin(0));
-    if all.value == 1 {
-        return give_default(s, all.next, f, upsampling, blending);
-    }
-    let a = read_front(s, f);
     let front = a.value;
-    let o = front.opening;
-    let crop = front.crop;
-    let b = read_back(s, a.next, f, o, crop);
     let back = b.value;
     let end = b.next;
-    let fault = end.fault;
-    if fault.number != 0 {
-        return refused_header(fault);
-    }
+    let o = front.opening;
+    let crop = front.crop;
     let closing = back.closing;
     let colour = back.blending;
     read_u32_array(
@@ -268,4 +264,35 @@ pub fn read_frame_header(
         end: end.at,
         refusal: accepted(),
     }
+}
+
+// The entry: 2, 1, 3, then the first fault in reading order. The lent buffers are written once all is known to be good.
+pub fn read_frame_header(
+    s: &[u8],
+    f: Facts,
+    name: &mut [u8],
+    upsampling: &mut [u32],
+    blending: &mut [u32],
+) -> HeaderAnswer
+    ensures { λ r. ⌜ Headed f (now (s .entry)) r (now (name .entry)) (now (name .exit)) (now (upsampling .entry)) (now (upsampling .exit)) (now (blending .entry)) (now (blending .exit)) ⌝ }
+{
+    let before = judge(s.len(), f, name.len(), upsampling.len(), blending.len());
+    if before.number != 0 {
+        return refused_header(before);
+    }
+    let all = read_bool(s, begin(0));
+    if all.value == 1 {
+        return give_default(s, all.next, f, upsampling, blending);
+    }
+    let a = read_front(s, f);
+    let front = a.value;
+    let o = front.opening;
+    let crop = front.crop;
+    let b = read_back(s, a.next, f, o, crop);
+    let end = b.next;
+    let fault = end.fault;
+    if fault.number != 0 {
+        return refused_header(fault);
+    }
+    give_read(s, f, a, b, name, upsampling, blending)
 }

@@ -41,52 +41,22 @@ refused-header-requires-2 : tie.Need-refused-header-requires-2
 refused-header-requires-2 c κs = search needs
 
 returns-3 : tie.Need-returns-3
-returns-3 c = refused-later (c .before .before .before .before .before .before .before .before .before .before .before .before .before .before .before .before .before .before .before .before .before .before .args .f) (c .before .before .before .before .before .before .before .before .before .before .before .before .before .before .before .before .before .before .before .before .before .before .args .s .now) (c .before .before .before .before .before .before .before .before .before .before .before .before .before .before .before .before .before .before .before .before .before .before .args .name .now) (c .before .before .before .before .before .before .before .before .before .before .before .before .before .before .before .before .before .before .before .before .before .before .args .upsampling .now) (c .before .before .before .before .before .before .before .before .before .before .before .before .before .before .before .before .before .before .before .before .before .before .args .blending .now) _ (c .before .before .before .before .before .before .before .before .before .before .before .before .before .before .before .before .before .judge .ensures) (c .before .before .before .before .before .before .before .before .before .before .before .before .before .before .before .if1 .left) _ _ (c .before .before .before .before .before .before .before .before .before .before .read-front .ensures) (c .before .before .before .before .before .before .read-back .ensures) (c .before .if3 .taken) _ (c .refused-header2 .ensures)
+returns-3 c = refused-later (c .before .before .before .before .before .before .before .before .before .before .before .before .before .before .before .before .before .before .before .before .before .args .f) (c .before .before .before .before .before .before .before .before .before .before .before .before .before .before .before .before .before .before .before .before .before .args .s .now) (c .before .before .before .before .before .before .before .before .before .before .before .before .before .before .before .before .before .before .before .before .before .args .name .now) (c .before .before .before .before .before .before .before .before .before .before .before .before .before .before .before .before .before .before .before .before .before .args .upsampling .now) (c .before .before .before .before .before .before .before .before .before .before .before .before .before .before .before .before .before .before .before .before .before .args .blending .now) _ (c .before .before .before .before .before .before .before .before .before .before .before .before .before .before .before .before .judge .ensures) (c .before .before .before .before .before .before .before .before .before .before .before .before .before .before .if1 .left) _ _ (c .before .before .before .before .before .before .before .before .before .read-front .ensures) (c .before .before .before .before .before .read-back .ensures) (c .before .if3 .taken) _ (c .refused-header2 .ensures)
 
-sent-upsampling-requires : tie.Need-sent-upsampling-requires
-sent-upsampling-requires c κs = search needs
-
-upsampling-choices-requires : tie.Need-upsampling-choices-requires
-upsampling-choices-requires c κs = search needs
-
-read-u32-array-requires : tie.Need-read-u32-array-requires
-read-u32-array-requires c κs = search needs
-
-is-shown-requires : tie.Need-is-shown-requires
-is-shown-requires c κs = search needs
-
-covers-image-requires : tie.Need-covers-image-requires
-covers-image-requires c κs = search needs
-
-read-extra-blending-requires : tie.Need-read-extra-blending-requires
-read-extra-blending-requires c κs = search needs
-
-read-bytes-requires : tie.Need-read-bytes-requires
-read-bytes-requires c κs = search needs
-
-assemble-requires : tie.Need-assemble-requires
-assemble-requires c κs = search needs
-
-accepted-requires : tie.Need-accepted-requires
-accepted-requires c κs = search needs
+give-read-requires : tie.Need-give-read-requires
+give-read-requires c κs = search needs
 
 same-length-3 : tie.Need-same-length-3
 same-length-3 c = search needs
 
 same-length-4 : tie.Need-same-length-4
-same-length-4 c = c .before .before .before .before .before .before .before .before .before .before .before .before .before .before .read-u32-array .kept .1 .1 .1 .1 .1 .1 .0
+same-length-4 c = search needs
 
 same-length-5 : tie.Need-same-length-5
 same-length-5 c = search needs
 
 returns-4 : tie.Need-returns-4
-returns-4 c =
-    accepted-all (c .before .before .before .before .before .before .before .before .before .before .before .before .before .before .before .before .before .before .before .before .before .before .before .before .before .before .before .before .before .before .before .before .before .before .before .before .before .before .before .before .before .args .f) (c .before .before .before .before .before .before .before .before .before .before .before .before .before .before .before .before .before .before .before .before .before .before .before .before .before .before .before .before .before .before .before .before .before .before .before .before .before .before .before .before .before .args .s .now) (c .before .before .before .before .before .before .before .before .before .before .before .before .before .before .before .before .before .before .before .before .before .before .before .before .before .before .before .before .before .before .before .before .before .before .before .before .before .before .before .before .before .args .name .now) (c .before .before .before .before .before .before .before .before .before .before .before .before .before .before .before .before .before .before .before .before .before .before .before .before .before .before .before .before .before .before .before .before .before .before .before .before .before .before .before .before .before .args .upsampling .now) (c .before .before .before .before .before .before .before .before .before .before .before .before .before .before .before .before .before .before .before .before .before .before .before .before .before .before .before .before .before .before .before .before .before .before .before .before .before .before .before .before .before .args .blending .now) _ (c .before .before .before .before .before .before .before .before .before .before .before .before .before .before .before .before .before .before .before .before .before .before .before .before .before .before .before .before .before .before .before .before .before .before .before .before .judge .ensures) (c .before .before .before .before .before .before .before .before .before .before .before .before .before .before .before .before .before .before .before .before .before .before .before .before .before .before .before .before .before .before .before .before .before .before .if1 .left) _ _ (c .before .before .before .before .before .before .before .before .before .before .before .before .before .before .before .before .before .before .before .before .before .before .before .before .before .before .before .before .before .read-front .ensures) (c .before .before .before .before .before .before .before .before .before .before .before .before .before .before .before .before .before .before .before .before .before .before .before .before .before .read-back .ensures) (c .before .before .before .before .before .before .before .before .before .before .before .before .before .before .before .before .before .before .before .before .if3 .left) _ _ _ _ _ _ _ _
-    (c .before .assemble .ensures)
-    (c .accepted .ensures)
-    (rw (c .before .before .before .before .before .before .before .before .before .before .before .before .before .before .before .before .before .sent-upsampling .ensures, c .before .before .before .before .before .before .before .before .before .before .before .before .before .before .before .before .upsampling-choices .ensures) at (c .before .before .before .before .before .before .before .before .before .before .before .before .before .before .read-u32-array .ensures))
-    (rw (c .before .before .before .before .before .before .before .before .before .before .before .is-shown .ensures, c .before .before .before .before .before .before .before .before .before .before .covers-image .ensures) at (c .before .before .before .before .before .before .before .before .read-extra-blending .ensures))
-    (c .before .before .before .before .read-bytes .ensures)
+returns-4 c = accepted-all (c .before .before .before .before .before .before .before .before .before .before .before .before .before .before .before .before .before .before .before .before .before .before .before .before .before .before .before .before .before .before .args .f) (c .before .before .before .before .before .before .before .before .before .before .before .before .before .before .before .before .before .before .before .before .before .before .before .before .before .before .before .before .before .before .args .s .now) (c .before .before .before .before .before .before .before .before .before .before .before .before .before .before .before .before .before .before .before .before .before .before .before .before .before .before .before .before .before .before .args .name .now) (c .before .before .before .before .before .before .before .before .before .before .before .before .before .before .before .before .before .before .before .before .before .before .before .before .before .before .before .before .before .before .args .upsampling .now) (c .before .before .before .before .before .before .before .before .before .before .before .before .before .before .before .before .before .before .before .before .before .before .before .before .before .before .before .before .before .before .args .blending .now) _ (c .before .before .before .before .before .before .before .before .before .before .before .before .before .before .before .before .before .before .before .before .before .before .before .before .before .judge .ensures) (c .before .before .before .before .before .before .before .before .before .before .before .before .before .before .before .before .before .before .before .before .before .before .before .if1 .left) _ _ (c .before .before .before .before .before .before .before .before .before .before .before .before .before .before .before .before .before .before .read-front .ensures) (c .before .before .before .before .before .before .before .before .before .before .before .before .before .before .read-back .ensures) (c .before .before .before .before .before .before .before .before .before .before .if3 .left) _ _ _ _ (c .before .before .before .before .before .before .give-read .ensures)
 
 pub read-frame-header-spec : {M : Type 1} → statement M
 read-frame-header-spec =
@@ -105,15 +75,7 @@ read-frame-header-spec =
     read-back-requires
     refused-header-requires-2
     returns-3
-    sent-upsampling-requires
-    upsampling-choices-requires
-    read-u32-array-requires
-    is-shown-requires
-    covers-image-requires
-    read-extra-blending-requires
-    read-bytes-requires
-    assemble-requires
-    accepted-requires
+    give-read-requires
     same-length-3
     same-length-4
     same-length-5
