@@ -126,8 +126,9 @@ fn toc_case(count: u32, permuted: bool) -> Case {
     }
 }
 
-/// A sample and a pass to the number of their section: each side looks it up in what it made of the frame once, the layout and the Rust's table.
-fn look_up_case() -> Case {
+/// A sample and a pass to the number of their section. Kept: each side looks it up in what it made of the frame once, the layout and the Rust's
+/// table. Else both begin at the frame's numbers; the proved reader judges them first, the Rust doesn't.
+fn look_up_case(kept: bool) -> Case {
     let f = inputs::frame(65536);
     let count = hingevale::section_count(&f).expect("a frame");
     let h = their_header(&f);
@@ -137,23 +138,37 @@ fn look_up_case() -> Case {
     let (mut x, mut u) = (0u32, 0u32);
     let width = f.width;
     Case {
-        name: "a sample to its section".into(),
+        name: format!(
+            "a sample to its section{}",
+            if kept { "" } else { ", from the frame" }
+        ),
         runs: 40000,
         ours: Box::new(move || {
             x = (x + 12347) % width;
-            black_box(&layout)
-                .section_of_sample(black_box(x), 77, 0)
-                .expect("inside") as u64
+            let section = if kept {
+                black_box(&layout).section_of_sample(black_box(x), 77, 0)
+            } else {
+                hingevale::section_of_sample(black_box(&f), black_box(x), 77, 0)
+            };
+            section.expect("inside") as u64
         }),
         theirs: Box::new(move || {
             u = (u + 12347) % width;
-            let group_idx = black_box(&h)
-                .group_idx_from_coord(black_box(u), 77)
-                .expect("inside");
-            black_box(&toc).group_index_bitstream_order(TocGroupKind::GroupPass {
-                pass_idx: 0,
-                group_idx,
-            }) as u64
+            let h = black_box(&h);
+            let group_idx = h.group_idx_from_coord(black_box(u), 77).expect("inside");
+            if kept {
+                black_box(&toc).group_index_bitstream_order(TocGroupKind::GroupPass {
+                    pass_idx: 0,
+                    group_idx,
+                }) as u64
+            } else {
+                let (groups, lf_groups) = (h.num_groups() as u64, h.num_lf_groups() as u64);
+                if groups == 1 && h.passes.num_passes == 1 {
+                    0
+                } else {
+                    1 + lf_groups + 1 + black_box(0) * groups + group_idx as u64
+                }
+            }
         }),
     }
 }
@@ -168,7 +183,8 @@ fn cases() -> Vec<Case> {
         all.push(toc_case(count, false));
         all.push(toc_case(count, true));
     }
-    all.push(look_up_case());
+    all.push(look_up_case(true));
+    all.push(look_up_case(false));
     all
 }
 
