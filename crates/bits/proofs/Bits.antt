@@ -1,4 +1,4 @@
--- Laws of bits: gathering one bit more, what a test for bits says, and how large so many bits are.
+-- Laws of bits: what a test for bits says, and how large so many bits are.
 use Prim.Native.Nat.{ℕ, zero, suc, _+_, _-_, _*_, _%_, _^_, _≤_, _<_}
 use native.Mathlib.Decide.{decLe}
 use native.Mathlib.Omega.{arith}
@@ -11,19 +11,14 @@ use mathlib.Core.List.{List}
 use mathlib.Core.Bool.{Bool, true, false, not, _&&_}
 use borrow.Author.Tests.{le-leb, lt-leb, leb-true}
 use lib.Dec.{leb, lit<}
-use lib.Bits.{bitOr, or-shifted-r}
-use lib.Pow.{shl-exact}
 use Rattle.bits.specs.Bits.{bitAt, bitsAt, bitCount, there}
 
-shifted : (n p e : ℕ) → p ≤ e → leb n (e - p) ≡ leb (p + n) e
-shifted n p e h =
+-- a test whether p + n is within e, as the code makes it
+pub within-by : (n p e : ℕ) → p ≤ e → leb n (e - p) ≡ leb (p + n) e
+within-by n p e h =
     by-cases (decLe (p + n) e)
     (λ y. le-leb n (e - p) (omega arith) ∙ sym (le-leb (p + n) e y))
     (λ y. lt-leb n (e - p) (omega (arith, y)) ∙ sym (lt-leb (p + n) e (omega (arith, y))))
-
--- the test for n bits at p, as the code makes it
-pub there-by : (s : List ℕ) (p n e : ℕ) → e ≡ bitCount s → n ≤ 32 → p ≤ e → leb n (e - p) ≡ there s p n
-there-by s p n e ee h k = shifted n p e k ∙ rw (le-leb n 32 h, ee)
 
 pub and-left : (a b : Bool) → (a && b) ≡ true → a ≡ true
 and-left true b e = refl
@@ -53,14 +48,3 @@ unfolding bitsAt
 bits-lt s p zero = lit< tt
 bits-lt s p (suc n) =
     rw (← add-one n, add-comm (bitsAt s p n) (bitAt s (p + n) * 2 ^ n)) (below-double (bitAt s (p + n)) n (bitsAt s p n) (bit-lt s (p + n)) (bits-lt s p n))
-
--- one bit more: what was gathered stays below, and the new bit stands at its place
-pub one-more : (s : List ℕ) (p v b i : ℕ) → i < 32 → v ≡ bitsAt s p i → v < 2 ^ i → b ≡ bitAt s (p + i)
-    → (bitOr v (b * 2 ^ i % 18446744073709551616) ≡ bitsAt s p (i + 1)) × (bitOr v (b * 2 ^ i % 18446744073709551616) < 2 ^ (i + 1))
-unfolding bitsAt
-one-more s p v b i h ev lt eb =
-    let b<2 : b < 2 ^ 1 = rw eb (bit-lt s (p + i)) in
-    let joined : bitOr v (b * 2 ^ i % 18446744073709551616) ≡ b * 2 ^ i + v = rw (shl-exact 1 i 64 b<2 (omega arith), or-shifted-r b i v lt) in (
-      joined ∙ add-comm (b * 2 ^ i) v ∙ rw (add-one, ← ev, ← eb) refl,
-      rw joined (below-double b i v b<2 lt),
-    )

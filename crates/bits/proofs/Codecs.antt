@@ -1,11 +1,14 @@
 -- Laws of the field types: what each way out of a reading function answers, over plain variables.
 use Prim.Native.Nat.{ℕ, zero, suc, _+_, _-_, _*_, _/_, _%_, _^_, _≤_, _<_}
+use native.Mathlib.Decide.{decLe}
+use native.Mathlib.Omega.{arith}
+use mathlib.Core.Logic.{by-cases}
 use mathlib.Core.Path.{_≡_, refl, sym, _∙_, ap}
 use mathlib.Core.List.{List}
-use mathlib.Core.Bool.{Bool, true, false, not, _&&_, true≢false}
+use mathlib.Core.Bool.{Bool, true, false, not, _&&_, and-false, true≢false}
 use lib.Dec.{leb, eqb}
 use lib.Bits.{bitAnd, and-mask}
-use borrow.Author.Tests.{eq-eqb, ne-eqb, eqb-false, le-leb, lt-leb}
+use borrow.Author.Tests.{not-true, not-false, eq-eqb, ne-eqb, eqb-false, le-leb, lt-leb}
 use Rattle.bits.specs.declared.pieces.Piece.{Piece}
 use Rattle.bits.specs.declared.Cursor.{Cursor}
 use Rattle.bits.specs.declared.Field.{Field}
@@ -17,7 +20,7 @@ use Rattle.bits.specs.Refusals.{pick, start, clear}
 use Rattle.bits.specs.Half.{exponent}
 use Rattle.bits.specs.Steps.{Steps, gives, refuses, takes, stopped, refusedAt, run, piece}
 use Rattle.bits.specs.Codec.{Codec, u, bool, u32, cases, u64, f16, padding, skip, steps, field, chosen, choice, long, more, wideOf}
-use Rattle.bits.proofs.Bits.{and-right}
+use Rattle.bits.proofs.Bits.{and-right, there-parts}
 use Rattle.bits.proofs.Steps.{run-take, run-cut, run-gives, run-refuses, field-idle, field-run}
 
 -- a field of which something was read: value and cursor as they were made
@@ -35,19 +38,39 @@ module _ (s : List ℕ) (on : Bool) (k : Codec) (d : ℕ) (c : Cursor) (i : Bool
     pub first-cut : not (x .there) ≡ true → refusedAt 4 (c .at) ≡ field s on k d c
     first-cut t = sym (field-run s on k d c i e busy ∙ ap (λ (r : Steps). run r s (c .at) (c .at)) st ∙ run-cut s (c .at) n (c .at) f x ex t)
 
--- U32: the selector's choice, then that many bits
-module _ (s : List ℕ) (p : ℕ) (ds : Choices) (f : ℕ → Steps) (k : Piece) (ch : Choice) (ech : ch ≡ chosen ds (k .value)) (x : Piece) (ex : x ≡ piece s (k .at) (ch .bits)) where
-  chosen-run : run (takes (chosen ds (k .value) .bits) λ y. f ((chosen ds (k .value) .base + y) % 2 ^ 32)) s p (k .at)
-      ≡ run (takes (ch .bits) λ y. f ((ch .base + y) % 2 ^ 32)) s p (k .at)
-  chosen-run = rw (← ech)
+-- a U32's selector and n bits after it are there: one test on the width and one on the end
+pub u32-narrow : (s : List ℕ) (p n : ℕ) → n ≤ 32 → leb (p + (n + 2)) (bitCount s) ≡ (there s p 2 && there s (p + 2) n)
+u32-narrow s p n h =
+    let sum : p + (n + 2) ≡ p + 2 + n = omega arith in
+    by-cases (decLe (p + 2 + n) (bitCount s))
+    (λ y. rw (sum, le-leb (p + 2 + n) (bitCount s) y, le-leb (p + 2) (bitCount s) (omega (arith, y)), le-leb n 32 h) refl)
+    (λ y. rw (sum, lt-leb (p + 2 + n) (bitCount s) (omega (arith, y)), le-leb n 32 h) (sym (and-false (there s p 2))))
 
-  pub choice-taken : not (x .there) ≡ false
-      → run (takes (chosen ds (k .value) .bits) λ y. f ((chosen ds (k .value) .base + y) % 2 ^ 32)) s p (k .at) ≡ run (f ((ch .base + x .value) % 2 ^ 32)) s p (x .at)
-  choice-taken t = chosen-run ∙ run-take s (k .at) (ch .bits) p (λ y. f ((ch .base + y) % 2 ^ 32)) x ex t
+pub u32-wide : (s : List ℕ) (p n : ℕ) → 32 < n → false ≡ (there s p 2 && there s (p + 2) n)
+u32-wide s p n h = rw (lt-leb n 32 h) (sym (and-false (there s p 2)))
 
-  pub choice-cut : not (x .there) ≡ true
-      → run (takes (chosen ds (k .value) .bits) λ y. f ((chosen ds (k .value) .base + y) % 2 ^ 32)) s p (k .at) ≡ refusedAt 4 p
-  choice-cut t = chosen-run ∙ run-cut s (k .at) (ch .bits) p (λ y. f ((ch .base + y) % 2 ^ 32)) x ex t
+pub u32-parts : (s : List ℕ) (p n : ℕ) (r : Bool) → r ≡ (there s p 2 && there s (p + 2) n) → not r ≡ false → (n ≤ 32) × (p + 2 + n ≤ bitCount s)
+u32-parts s p n r er t = there-parts s (p + 2) n (and-right (there s p 2) (there s (p + 2) n) (sym er ∙ not-false r t))
+
+-- a U32: its selector, then the choice that it names
+module _ (s : List ℕ) (p : ℕ) (ds : Choices) (k : ℕ) (ek : k ≡ bitsAt s p 2) (ch : Choice) (ech : ch ≡ chosen ds k) (r : Bool) (er : r ≡ (there s p 2 && there s (p + 2) (ch .bits))) where
+  u32-by : (a b : Bool) → there s p 2 ≡ a → there s (p + 2) (ch .bits) ≡ b → run (choice ds gives) s p p
+      ≡ pick (a && b) (record { value = (ch .base + bitsAt s (p + 2) (ch .bits)) % 2 ^ 32; next = start (p + 2 + ch .bits) }) (refusedAt 4 p)
+  unfolding run
+  u32-by true true ha hb = rw (ha, ← ek, ← ech, hb) refl
+  u32-by true false ha hb = rw (ha, ← ek, ← ech, hb) refl
+  u32-by false b ha hb = rw ha refl
+
+  u32-run : run (choice ds gives) s p p
+      ≡ pick r (record { value = (ch .base + bitsAt s (p + 2) (ch .bits)) % 2 ^ 32; next = start (p + 2 + ch .bits) }) (refusedAt 4 p)
+  u32-run = u32-by (there s p 2) (there s (p + 2) (ch .bits)) refl refl ∙ rw (← er) refl
+
+  pub u32-cut : not r ≡ true → refusedAt 4 p ≡ run (choice ds gives) s p p
+  u32-cut t = sym (u32-run ∙ rw (not-true r t) refl)
+
+  pub u32-read : (v q : ℕ) (b : Cursor) → not r ≡ false → v ≡ (ch .base + bitsAt s (p + 2) (ch .bits)) % 2 ^ 32 → q ≡ p + 2 + ch .bits → b ≡ start q
+      → _≡_ {A = Field} (record { value = v; next = b }) (run (choice ds gives) s p p)
+  u32-read v q b t ev eq eb = rw (ev, eb, eq) (sym (u32-run ∙ rw (not-false r t) refl))
 
 -- a U32 that goes on is the U32 itself, and then what follows unless it was refused
 choice-by : (ds : Choices) (f : ℕ → Steps) (s : List ℕ) (p q : ℕ) (b1 b2 : Bool) → there s q 2 ≡ b1 → there s (q + 2) (chosen ds (bitsAt s q 2) .bits) ≡ b2

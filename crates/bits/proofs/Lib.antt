@@ -1,4 +1,5 @@
 pub mod Bits
+pub mod Windows
 pub mod Steps
 pub mod Codecs
 pub mod Tables

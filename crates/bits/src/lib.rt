@@ -3,6 +3,7 @@
 // end, a width over 32 and a long slice have an answer too.
 mod fields;
 mod pieces;
+mod window;
 
 pub use fields::idle;
 pub use fields::read_bits;
@@ -12,9 +13,12 @@ pub use fields::read_bool_if;
 pub use fields::zero_pad_to_byte;
 pub use pieces::Piece;
 pub use pieces::bit_count;
+pub use pieces::reaches;
 pub use pieces::refused_at;
 pub use pieces::stop;
 pub use pieces::take;
+pub use window::low_bits;
+pub use window::peek_bits;
 ghost use mathlib.Core.Path.{_≡_};
 ghost use mathlib.Core.Bool.{_&&_, _||_};
 ghost use Rattle.bits.specs.Refusals.{refusal, none, start};

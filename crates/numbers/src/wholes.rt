@@ -7,11 +7,15 @@ use bits::Refusal;
 use bits::Wide;
 use bits::begin;
 use bits::idle;
+use bits::low_bits;
+use bits::peek_bits;
+use bits::reaches;
 use bits::refused_at;
 use bits::take;
 ghost use mathlib.Core.Path.{_≡_};
-ghost use mathlib.Core.Bool.{true};
+ghost use mathlib.Core.Bool.{true, _&&_};
 ghost use Prim.Native.Nat.{_+_, _*_, _^_, _<_, _≤_};
+ghost use Rattle.bits.specs.Bits.{there};
 ghost use Rattle.bits.specs.Steps.{run, gives, takes, refusedAt};
 ghost use Rattle.bits.specs.Codec.{u32, cases, u64, chosen, more, long, field, wideOf, signed};
 
@@ -28,7 +32,14 @@ fn choose(d: Choices, k: u32) -> Choice
     if k == 2 { d.d2 } else { d.d3 }
 }
 
-// U32 where it is asked for: the selector, then its choice.
+// Whether a selector is there from p on, and n bits after it.
+fn u32_is_there(s: &[u8], p: u64, n: u32) -> bool
+    ensures { λ r. ⌜ r ≡ (there (now (s .entry)) p 2 && there (now (s .entry)) (p + 2) n) ⌝ }
+{
+    if 32 < n { false } else { reaches(s, p, n + 2) }
+}
+
+// U32 where it is asked for: the selector, then its choice. Both lie in the 56 bits ahead.
 pub fn read_u32_if(s: &[u8], c: Cursor, on: bool, d: Choices, default: u32) -> Field
     ensures { λ r. ⌜ r ≡ field (now (s .entry)) on (u32 d) default c ⌝ }
 {
@@ -39,18 +50,14 @@ pub fn read_u32_if(s: &[u8], c: Cursor, on: bool, d: Choices, default: u32) -> F
         };
     }
     let at = c.at;
-    let k = take(s, at, 2);
-    if !k.there {
-        return refused_at(4, at);
-    }
-    let e = choose(d, k.value);
-    let x = take(s, k.at, e.bits);
-    if !x.there {
+    let ahead = peek_bits(s, at);
+    let e = choose(d, low_bits(ahead, 2));
+    if !u32_is_there(s, at, e.bits) {
         return refused_at(4, at);
     }
     Field {
-        value: std::num::wrapping_add_u32(e.base, x.value),
-        next: begin(x.at),
+        value: std::num::wrapping_add_u32(e.base, low_bits(ahead >> 2, e.bits)),
+        next: begin(at + 2 + (e.bits as u64)),
     }
 }
 

@@ -1,10 +1,12 @@
--- `read_u32_if`: passed by, cut at the selector, cut at the choice, or read.
+-- `read_u32_if`: passed by, cut, or read from the 56 bits ahead.
 use borrow.Author.Needs.{needs}
-use mathlib.Core.Path.{refl, sym, _∙_}
+use native.Mathlib.Omega.{arith}
+use Prim.Native.Nat.{ℕ, _+_, _%_, _^_}
+use mathlib.Core.Path.{refl, sym, _∙_, ap}
 use Rattle.bits.specs.Codec.{u32}
-use Rattle.bits.specs.Steps.{gives}
-use Rattle.bits.proofs.Steps.{field-idle}
-use Rattle.bits.proofs.Codecs.{given, first-taken, first-cut, choice-taken, choice-cut}
+use Rattle.bits.proofs.Steps.{field-idle, field-run}
+use Rattle.bits.proofs.Windows.{peeked, peeked-after}
+use Rattle.bits.proofs.Codecs.{u32-parts, u32-cut, u32-read}
 use Rattle.numbers.proofs.wholes.read_u32_if.Statement.{statement}
 use Rattle.numbers.proofs.wholes.read_u32_if.Tie as tie
 
@@ -14,47 +16,61 @@ idle-requires c κs = search needs
 returns : tie.Need-returns
 returns c = sym (field-idle (c .before .before .before .args .s .now) _ _ _ _ _ (c .before .idle .ensures) (c .if1 .taken))
 
-take-requires : tie.Need-take-requires
-take-requires c κs = search needs
+peek-bits-requires : tie.Need-peek-bits-requires
+peek-bits-requires c κs = search needs
+
+low-bits-requires : tie.Need-low-bits-requires
+low-bits-requires c κs = search needs
+
+choose-requires : tie.Need-choose-requires
+choose-requires c κs = search needs
+
+u32-is-there-requires : tie.Need-u32-is-there-requires
+u32-is-there-requires c κs = search needs
 
 refused-at-requires : tie.Need-refused-at-requires
 refused-at-requires c κs = search needs
 
 returns-2 : tie.Need-returns-2
 returns-2 c =
+    let a = c .before .before .before .before .before .before .before .before .before .args in
     c .refused-at .ensures
-    ∙ first-cut (c .before .before .before .before .before .before .before .args .s .now) (c .before .before .before .before .before .before .before .args .on) (u32 (c .before .before .before .before .before .before .before .args .d)) _ _ _ (c .before .before .before .before .before .idle .ensures) _ _ refl (c .before .before .before .before .if1 .left) _ (c .before .before .before .take .ensures) (c .before .if2 .taken)
+    ∙ u32-cut (a .s .now) (a .c .at) (a .d) _ (peeked (a .s .now) (a .c .at) 2 _ _ (omega arith) (c .before .before .before .before .before .peek-bits .ensures) (c .before .before .before .before .low-bits .ensures)) _ (c .before .before .before .choose .ensures) _ (c .before .before .u32-is-there .ensures) (c .before .if2 .taken)
+    ∙ sym (field-run (a .s .now) (a .on) (u32 (a .d)) _ _ _ (c .before .before .before .before .before .before .before .idle .ensures) (c .before .before .before .before .before .before .if1 .left))
 
-choose-requires : tie.Need-choose-requires
-choose-requires c κs = search needs
-
-take-requires-2 : tie.Need-take-requires-2
-take-requires-2 c κs = search needs
-
-refused-at-requires-2 : tie.Need-refused-at-requires-2
-refused-at-requires-2 c κs = search needs
-
-returns-3 : tie.Need-returns-3
-returns-3 c =
-    c .refused-at2 .ensures
-    ∙ sym (
-    first-taken (c .before .before .before .before .before .before .before .before .before .before .before .args .s .now) (c .before .before .before .before .before .before .before .before .before .before .before .args .on) (u32 (c .before .before .before .before .before .before .before .before .before .before .before .args .d)) _ _ _ (c .before .before .before .before .before .before .before .before .before .idle .ensures) _ _ refl (c .before .before .before .before .before .before .before .before .if1 .left) _ (c .before .before .before .before .before .before .before .take .ensures) (c .before .before .before .before .before .if2 .left)
-    ∙ choice-cut (c .before .before .before .before .before .before .before .before .before .before .before .args .s .now) (c .before .before .before .before .before .before .before .before .before .before .before .args .c .at) (c .before .before .before .before .before .before .before .before .before .before .before .args .d) gives (c .before .before .before .before .before .before .before .take .result) _ (c .before .before .before .before .choose .ensures) _ (c .before .before .before .take2 .ensures) (c .before .if3 .taken)
-    )
+low-bits-requires-2 : tie.Need-low-bits-requires-2
+low-bits-requires-2 c κs = search needs
 
 wrapping-add-u32-requires : tie.Need-wrapping-add-u32-requires
 wrapping-add-u32-requires c κs = search needs
 
+add-begin : tie.Need-add-begin
+add-begin c =
+    let a = c .before .before .before .before .before .before .before .before .before .before .args in
+    record { fits = omega (arith, u32-parts (a .s .now) (a .c .at) (c .before .before .before .before .choose .result .bits) _ (c .before .before .before .u32-is-there .ensures) (c .before .before .if2 .left)) }
+
+cast-begin : tie.Need-cast-begin
+cast-begin c = search needs
+
+add-begin-2 : tie.Need-add-begin-2
+add-begin-2 c =
+    let a = c .before .before .before .before .before .before .before .before .before .before .before .args in
+    record { fits = omega (arith, u32-parts (a .s .now) (a .c .at) (c .before .before .before .before .before .choose .result .bits) _ (c .before .before .before .before .u32-is-there .ensures) (c .before .before .before .if2 .left)) }
+
 begin-requires : tie.Need-begin-requires
 begin-requires c κs = search needs
 
-returns-4 : tie.Need-returns-4
-returns-4 c =
-    given (c .before .before .before .before .before .before .before .before .before .before .before .before .args .s .now) (c .before .before .before .before .before .before .before .before .before .before .before .before .args .c .at) _ _ _ _ (c .before .wrapping-add-u32 .ensures) (c .begin .ensures)
-    ∙ sym (
-    first-taken (c .before .before .before .before .before .before .before .before .before .before .before .before .args .s .now) (c .before .before .before .before .before .before .before .before .before .before .before .before .args .on) (u32 (c .before .before .before .before .before .before .before .before .before .before .before .before .args .d)) _ _ _ (c .before .before .before .before .before .before .before .before .before .before .idle .ensures) _ _ refl (c .before .before .before .before .before .before .before .before .before .if1 .left) _ (c .before .before .before .before .before .before .before .before .take .ensures) (c .before .before .before .before .before .before .if2 .left)
-    ∙ choice-taken (c .before .before .before .before .before .before .before .before .before .before .before .before .args .s .now) (c .before .before .before .before .before .before .before .before .before .before .before .before .args .c .at) (c .before .before .before .before .before .before .before .before .before .before .before .before .args .d) gives (c .before .before .before .before .before .before .before .before .take .result) _ (c .before .before .before .before .before .choose .ensures) _ (c .before .before .before .before .take2 .ensures) (c .before .before .if3 .left)
-    )
+returns-3 : tie.Need-returns-3
+returns-3 c =
+    let a = c .before .before .before .before .before .before .before .before .before .before .before .before .args in
+    let e = c .before .before .before .before .before .before .choose .result in
+    let narrow = u32-parts (a .s .now) (a .c .at) (e .bits) _ (c .before .before .before .before .before .u32-is-there .ensures) (c .before .before .before .before .if2 .left) .0 in
+    let bits = peeked-after (a .s .now) (a .c .at) (e .bits) _ _ narrow (c .before .before .before .before .before .before .before .before .peek-bits .ensures) (c .before .before .before .low-bits2 .ensures) in
+    u32-read (a .s .now) (a .c .at) (a .d) _ (peeked (a .s .now) (a .c .at) 2 _ _ (omega arith) (c .before .before .before .before .before .before .before .before .peek-bits .ensures) (c .before .before .before .before .before .before .before .low-bits .ensures)) _ (c .before .before .before .before .before .before .choose .ensures) _ (c .before .before .before .before .before .u32-is-there .ensures) _ _ _ (c .before .before .before .before .if2 .left)
+    (c .before .before .wrapping-add-u32 .ensures ∙ ap (λ (x : ℕ). (e .base + x) % 2 ^ 32) bits)
+    refl
+    (c .begin .ensures)
+    ∙ sym (field-run (a .s .now) (a .on) (u32 (a .d)) _ _ _ (c .before .before .before .before .before .before .before .before .before .before .idle .ensures) (c .before .before .before .before .before .before .before .before .before .if1 .left))
 
 pub read-u32-if-spec : {M : Type 1} → statement M
 read-u32-if-spec =
@@ -62,13 +78,16 @@ read-u32-if-spec =
     (tie.spec
     idle-requires
     returns
-    take-requires
+    peek-bits-requires
+    low-bits-requires
+    choose-requires
+    u32-is-there-requires
     refused-at-requires
     returns-2
-    choose-requires
-    take-requires-2
-    refused-at-requires-2
-    returns-3
+    low-bits-requires-2
     wrapping-add-u32-requires
+    add-begin
+    cast-begin
+    add-begin-2
     begin-requires
-    returns-4)
+    returns-3)
