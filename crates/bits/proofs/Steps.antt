@@ -82,3 +82,7 @@ module _ (s : List ℕ) (on : Bool) (k : Codec) (d : ℕ) (c : Cursor) (i : Bool
 
   pub field-run : i ≡ false → field s on k d c ≡ run (steps k (c .at)) s (c .at) (c .at)
   field-run = busied (on && clear c) refl
+
+  -- passed by: the default, beside the cursor as it was
+  pub field-passed : i ≡ true → (r : Cursor) → r ≡ c → _≡_ {A = Field} (record { value = d; next = r }) (field s on k d c)
+  field-passed t r er = rw er (sym (field-idle t))

@@ -5,11 +5,16 @@ use native.Mathlib.Omega.{arith}
 use native.Mathlib.Nat.{add-zero, zero-add, add-suc, add-assoc, add-comm, zero-mul, one-mul, mul-assoc, mul-comm, add-mul, zero-div, zero-mod, mod-one, mod-eq-of-lt}
 use mathlib.Core.Path.{_≡_, refl, sym, _∙_, ap}
 use mathlib.Core.List.{List}
+use mathlib.Core.Bool.{Bool, true, false}
+use mathlib.Core.Logic.{by-cases}
+use native.Mathlib.Decide.{decLe}
+use borrow.Author.Tests.{lt-ltb, le-ltb, le-leb, lt-leb, leb-true}
 use lib.ListN.{length, getD, List·getD-eq-default}
 use lib.Bits.{bitAnd, bitOr, and-mask, or-shifted-r}
-use lib.Dec.{lit<}
+use lib.Dec.{leb, ltb, lit<}
 use lib.Pow.{pow-add, shl-exact, high, low, mod-pow-add}
-use Rattle.bits.specs.Bits.{bitAt, bitsAt}
+use Rattle.bits.specs.declared.window.Ahead.{Ahead}
+use Rattle.bits.specs.Bits.{bitAt, bitsAt, bitCount, ahead}
 use Rattle.bits.proofs.Bits.{bits-lt}
 
 -- the bits from p on are m of them, and above them those from p + m on
@@ -48,13 +53,8 @@ unfolding bitsAt
 bits-past s p zero h = refl
 bits-past s p (suc n) h = rw (bits-past s p n h, bit-past s (p + n) (omega arith), zero-mul (2 ^ n)) refl
 
-ended : (s : List ℕ) (p k n : ℕ) → 8 * length s ≤ p + k → bitsAt s p (k + n) ≡ bitsAt s p k
+pub ended : (s : List ℕ) (p k n : ℕ) → 8 * length s ≤ p + k → bitsAt s p (k + n) ≡ bitsAt s p k
 ended s p k n h = bits-add s p k n ∙ rw (bits-past s (p + k) n h, zero-mul (2 ^ k), zero-add (bitsAt s p k)) refl
-
--- some bits of what ends with the input, zeros behind it
-pub part-of-end : (s : List ℕ) (p k r n : ℕ) → 8 * length s ≤ p + k → bitsAt s p k / 2 ^ r % 2 ^ n ≡ bitsAt s (p + r) n
-part-of-end s p k r n h =
-    ap (λ (x : ℕ). x / 2 ^ r % 2 ^ n) (sym (ended s p k (r + n) h)) ∙ part-of s p (k + (r + n)) r n (omega arith)
 
 -- a byte's lowest bits
 byte-low : (s : List ℕ) (i j : ℕ) → j ≤ 8 → bitsAt s (8 * i) j ≡ getD s i 0 % 2 ^ j
@@ -81,14 +81,40 @@ byte-more s i v b k h b< eb ev =
     let byte : bitsAt s (8 * i + 8 * k) 8 ≡ b = ap (λ (x : ℕ). bitsAt s x 8) place ∙ sym (byte-first s (i + k) b b< eb) in
     joined ∙ rw (more, bits-add s (8 * i) (8 * k) 8, byte, ev) refl
 
+-- what lies ahead, as the code has it: the bits from the word that holds them, and two tests
+pub ahead-by : (s : List ℕ) (p b : ℕ) (w : Bool) → b ≡ bitsAt s p 56 → w ≡ leb (p / 8 + 8) (min (length s) 16777216) → _≡_ {A = Ahead} (record { bits = b; whole = w }) (ahead s p)
+unfolding ahead
+ahead-by s p b w eb ew = rw (eb, ew)
+
+pub from-word : (s : List ℕ) (p w r b : ℕ) → w ≡ bitsAt s (8 * (p / 8)) 64 → r ≡ p % 8 → b ≡ w / 2 ^ r % 2 ^ 56 → b ≡ bitsAt s p 56
+from-word s p w r b ew er eb =
+    let place : 8 * (p / 8) + p % 8 ≡ p = omega arith in
+    eb ∙ rw (ew, er) (part-of s (8 * (p / 8)) 64 (p % 8) 56 (omega arith) ∙ ap (λ (q : ℕ). bitsAt s q 56) place)
+
+pub whole-here : (p n : ℕ) → p / 8 + 8 ≤ n → ltb p 134217672 ≡ leb (p / 8 + 8) (min n 16777216)
+whole-here p n h =
+    by-cases (decLe (p / 8 + 8) 16777216)
+    (λ y. lt-ltb p 134217672 (omega (arith, y)) ∙ sym (le-leb (p / 8 + 8) (min n 16777216) (omega (arith, y))))
+    (λ y. le-ltb p 134217672 (omega (arith, y)) ∙ sym (lt-leb (p / 8 + 8) (min n 16777216) (omega (arith, y))))
+
+pub not-whole : (p n : ℕ) → n < p / 8 + 8 → false ≡ leb (p / 8 + 8) (min n 16777216)
+not-whole p n h = sym (lt-leb (p / 8 + 8) (min n 16777216) (omega arith))
+
+-- where eight bytes are ahead, so are up to 56 bits
+pub whole-reaches : (s : List ℕ) (p n : ℕ) (w : Bool) → w ≡ ahead s p .whole → w ≡ true → n ≤ 56 → p + n ≤ bitCount s
+unfolding ahead
+whole-reaches s p n w e t h = omega (arith, leb-true (p / 8 + 8) (min (length s) 16777216) (sym e ∙ t))
+
 -- a field's bits are the lowest of those ahead
-pub peeked : (s : List ℕ) (p n w v : ℕ) → n ≤ 32 → w ≡ bitsAt s p 56 → v ≡ w % 2 ^ min n 32 → v ≡ bitsAt s p n
+pub peeked : (s : List ℕ) (p n w v : ℕ) → n ≤ 32 → w ≡ ahead s p .bits → v ≡ w % 2 ^ min n 32 → v ≡ bitsAt s p n
+unfolding ahead
 peeked s p n w v h ew ev =
     let all : min n 32 ≡ n = omega arith in
     ev ∙ rw (all, ew) (low-of s p 56 n (omega arith))
 
 -- so are those after a selector, two bits further
-pub peeked-after : (s : List ℕ) (p n w v : ℕ) → n ≤ 32 → w ≡ bitsAt s p 56 → v ≡ w / 4 % 2 ^ min n 32 → v ≡ bitsAt s (p + 2) n
+pub peeked-after : (s : List ℕ) (p n w v : ℕ) → n ≤ 32 → w ≡ ahead s p .bits → v ≡ w / 4 % 2 ^ min n 32 → v ≡ bitsAt s (p + 2) n
+unfolding ahead
 peeked-after s p n w v h ew ev =
     let all : min n 32 ≡ n = omega arith in
     ev ∙ rw (all, ew) (part-of s p 56 2 n (omega arith))

@@ -4,6 +4,7 @@ use mathlib.Core.List.{List}
 use mathlib.Core.Bool.{Bool, _&&_}
 use lib.ListN.{length, getD}
 use lib.Dec.{leb}
+use Rattle.bits.specs.declared.window.Ahead.{Ahead}
 
 -- bit p
 abbrev pub bitAt : List ℕ → ℕ → ℕ
@@ -21,3 +22,7 @@ bitCount s = 8 * min (length s) 16777216
 -- whether n bits are there from p on; no field is wider than 32
 abbrev pub there : List ℕ → ℕ → ℕ → Bool
 there s p n = leb n 32 && leb (p + n) (bitCount s)
+
+-- what lies ahead of p: 56 bits, zero behind the end, and whether the eight bytes from p's own on may be read
+unfoldable pub ahead : List ℕ → ℕ → Ahead
+ahead s p = record { bits = bitsAt s p 56; whole = leb (p / 8 + 8) (min (length s) 16777216) }

@@ -2,6 +2,7 @@
 use crate::Cursor;
 use crate::Field;
 use crate::begin;
+use crate::kept;
 use crate::pieces::refused_at;
 use crate::pieces::stop;
 use crate::pieces::take;
@@ -25,7 +26,7 @@ pub fn read_bits_if(s: &[u8], c: Cursor, on: bool, n: u32, default: u32) -> Fiel
     if idle(c, on) {
         return Field {
             value: default,
-            next: c,
+            next: kept(c),
         };
     }
     let at = c.at;
@@ -63,7 +64,7 @@ pub fn zero_pad_to_byte(s: &[u8], c: Cursor) -> Cursor
     ensures { λ r. ⌜ r ≡ field (now (s .entry)) true padding 0 c .next ⌝ }
 {
     if idle(c, true) {
-        return c;
+        return kept(c);
     }
     let at = c.at;
     let n = ((8 - at % 8) % 8) as u32;

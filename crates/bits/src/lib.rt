@@ -17,8 +17,9 @@ pub use pieces::reaches;
 pub use pieces::refused_at;
 pub use pieces::stop;
 pub use pieces::take;
+pub use window::Ahead;
+pub use window::look_ahead;
 pub use window::low_bits;
-pub use window::peek_bits;
 ghost use mathlib.Core.Path.{_≡_};
 ghost use mathlib.Core.Bool.{_&&_, _||_};
 ghost use Rattle.bits.specs.Refusals.{refusal, none, start};
@@ -88,6 +89,20 @@ pub fn begin(place: u64) -> Cursor
 {
     let fault = accepted();
     Cursor { at: place, fault }
+}
+
+// A cursor as it is, put together again: where a field is passed by nothing is copied through memory.
+pub fn kept(c: Cursor) -> Cursor
+    ensures { λ r. ⌜ r ≡ c ⌝ }
+{
+    let fault = c.fault;
+    Cursor {
+        at: c.at,
+        fault: Refusal {
+            number: fault.number,
+            place: fault.place,
+        },
+    }
 }
 
 // A constant as a choice of a U32.

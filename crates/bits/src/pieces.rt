@@ -2,12 +2,12 @@
 use crate::Cursor;
 use crate::Field;
 use crate::Refusal;
+use crate::window::look_ahead;
 use crate::window::low_bits;
-use crate::window::peek_bits;
 ghost use mathlib.Core.Path.{_≡_};
 ghost use Prim.Native.Nat.{_+_};
 ghost use lib.Dec.{leb};
-ghost use Rattle.bits.specs.Bits.{bitCount, there};
+ghost use Rattle.bits.specs.Bits.{bitCount, there, ahead};
 ghost use Rattle.bits.specs.Steps.{stopped, refusedAt, piece};
 
 // So many bits of a field: whether they are there, their value, and the place after them.
@@ -39,21 +39,26 @@ pub fn reaches(s: &[u8], p: u64, n: u32) -> bool
     (n as u64) <= end - p
 }
 
-// Whether a piece of n bits is there from p on.
-fn is_there(s: &[u8], p: u64, n: u32) -> bool
+// Whether a piece of n bits is there from p on, given whether eight bytes are.
+fn is_there(s: &[u8], p: u64, n: u32, whole: bool) -> bool
+    requires { ⌜ whole ≡ ahead (now s) p .whole ⌝ }
     ensures { λ r. ⌜ r ≡ there (now (s .entry)) p n ⌝ }
 {
-    if 32 < n { false } else { reaches(s, p, n) }
+    if 32 < n {
+        return false;
+    }
+    if whole { true } else { reaches(s, p, n) }
 }
 
 // The n bits from p on, if they are there.
 pub fn take(s: &[u8], p: u64, n: u32) -> Piece
     ensures { λ r. ⌜ r ≡ piece (now (s .entry)) p n ⌝ }
 {
-    if is_there(s, p, n) {
+    let a = look_ahead(s, p);
+    if is_there(s, p, n, a.whole) {
         Piece {
             there: true,
-            value: low_bits(peek_bits(s, p), n),
+            value: low_bits(a.bits, n),
             at: p + (n as u64),
         }
     } else {

@@ -1,8 +1,14 @@
-// The bits ahead of a place, from whole bytes: eight at once where the input has eight.
+// What lies ahead of a place, from whole bytes: eight at once where the input has eight left.
 ghost use mathlib.Core.Path.{_≡_};
 ghost use Prim.Native.Nat.{_+_, _*_, _/_, _%_, _^_, _≤_, _<_, min};
 ghost use lib.ListN.{length};
-ghost use Rattle.bits.specs.Bits.{bitsAt};
+ghost use Rattle.bits.specs.Bits.{bitsAt, ahead};
+
+// The 56 bits from a place on, zero behind the end, and whether the eight bytes that hold them may be read: then each of the 56 is there.
+pub struct Ahead {
+    pub bits: u64,
+    pub whole: bool,
+}
 
 fn wide(x: u8) -> u64
     ensures { λ r. ⌜ (r ≡ x) × (r < 256) ⌝ }
@@ -25,53 +31,48 @@ fn word(s: &[u8], i: usize) -> u64
     b6 | (wide(s[i + 7]) << 56)
 }
 
-// All bytes of an input of up to eight, the first the lowest.
-fn few(s: &[u8]) -> u64
-    requires { ⌜ length (now s) ≤ 8 ⌝ }
-    ensures { λ r. ⌜ r ≡ bitsAt (now (s .entry)) 0 (8 * length (now (s .entry))) ⌝ }
+// The same where fewer than eight are left, or none: zeros behind the last.
+fn word_at_end(s: &[u8], i: usize) -> u64
+    requires { ⌜ length (now s) < i + 8 ⌝ }
+    ensures { λ r. ⌜ r ≡ bitsAt (now (s .entry)) (8 * i) 64 ⌝ }
 {
     let mut v: u64 = 0;
-    let mut k: usize = 0;
+    let mut k: usize = i;
+    let mut shift: u32 = 0;
     while k < s.len() {
         let b = wide(s[k]);
-        v = v | (b << (8 * k));
+        v = v | (b << shift);
         k += 1;
+        shift += 8;
     }
     v
 }
 
-// 56 bits of a number from bit r on, which may lie behind its end.
+// 56 bits of a word, from bit r on.
 fn part(v: u64, r: u64) -> u64
+    requires { ⌜ r < 64 ⌝ }
     ensures { λ x. ⌜ x ≡ v / 2 ^ r % 2 ^ 56 ⌝ }
 {
-    if r < 64 {
-        (v >> r) & 72057594037927935
-    } else {
-        0
-    }
+    (v >> r) & 72057594037927935
 }
 
-// The 56 bits from p on where fewer than eight bytes are left at p, or none.
-fn peek_end(s: &[u8], p: u64) -> u64
-    requires { ⌜ length (now s) < p / 8 + 8 ⌝ }
-    ensures { λ r. ⌜ r ≡ bitsAt (now (s .entry)) p 56 ⌝ }
-{
-    if s.len() < 8 {
-        return part(few(s), p);
-    }
-    let last = s.len() - 8;
-    part(word(s, last), p - ((last as u64) << 3))
-}
-
-// The 56 bits from p on; those behind the end are zero.
-pub fn peek_bits(s: &[u8], p: u64) -> u64
-    ensures { λ r. ⌜ r ≡ bitsAt (now (s .entry)) p 56 ⌝ }
+// What lies ahead of p. None is read behind the first 16,777,216 bytes, so the last place with eight bytes ahead is 8 * 16,777,208 + 7.
+pub fn look_ahead(s: &[u8], p: u64) -> Ahead
+    ensures { λ r. ⌜ r ≡ ahead (now (s .entry)) p ⌝ }
 {
     let i = p >> 3;
     if i + 8 <= (s.len() as u64) {
-        part(word(s, i as usize), p & 7)
+        let w = word(s, i as usize);
+        Ahead {
+            bits: part(w, p & 7),
+            whole: p < 134217672,
+        }
     } else {
-        peek_end(s, p)
+        let w = word_at_end(s, i as usize);
+        Ahead {
+            bits: part(w, p & 7),
+            whole: false,
+        }
     }
 }
 

@@ -1,34 +1,50 @@
 -- What each step of the check asks for at its return, over plain variables.
-use Prim.Native.Nat.{ℕ, _+_, _*_, _%_, _^_, _≤_, _<_}
+use Prim.Native.Nat.{ℕ, zero, suc, _+_, _*_, _/_, _%_, _^_, _≤_, _<_}
 use native.Mathlib.Omega.{arith}
 use native.Mathlib.Nat.{le-trans}
-use mathlib.Core.Path.{_≡_}
+use mathlib.Core.Path.{_≡_, refl}
 use mathlib.Core.Bool.{Bool, true, false, not, _&&_, _||_}
-use borrow.Author.Tests.{le-leb, lt-leb, lt-ltb, le-ltb, not-true, not-false}
+use borrow.Author.Tests.{ne-eqb, le-leb, lt-leb, lt-ltb, le-ltb, not-true, not-false}
 use lib.Dec.{leb, eqb}
+use lib.Bits.{bitAnd}
 use Rattle.bits.specs.Refusals.{pick, refusal, none}
 use Rattle.bits.specs.declared.Refusal.{Refusal}
 use Rattle.grid.specs.declared.Frame.{Frame}
 use Rattle.grid.specs.declared.Grid.{Grid}
 use Rattle.grid.specs.Sizes.{up, sample, colorWidth, colorHeight, groupSide, count, sectionsOf, sections}
-use Rattle.grid.specs.Measured.{goodRecord, zeroSize, tooMany, laid, refusedGrid, gridOf}
+use Rattle.grid.specs.Measured.{upsamples, goodRecord, zeroSize, tooMany, laid, refusedGrid, gridOf}
 use Rattle.grid.proofs.Rounding.{eight}
 use Rattle.grid.proofs.Accepted.{good, sample-le, side-bounds, count-small, groups-le, lf-le}
 
--- the nine tests of a record
-pub record-good : (f : Frame) (small large upsamples passes levels sizes first second r : Bool)
-    → small ≡ (eqb (f .upsampling) 1 || eqb (f .upsampling) 2)
-    → large ≡ (eqb (f .upsampling) 4 || eqb (f .upsampling) 8)
-    → upsamples ≡ (small || large)
+-- an upsampling is one of the four that have a bit in 278
+pub by-bit : (n : ℕ) → n ≤ 8 → eqb (bitAnd (278 / 2 ^ n) 1) 1 ≡ upsamples n
+by-bit zero h = refl
+by-bit (suc zero) h = refl
+by-bit (suc (suc zero)) h = refl
+by-bit (suc (suc (suc zero))) h = refl
+by-bit (suc (suc (suc (suc zero)))) h = refl
+by-bit (suc (suc (suc (suc (suc zero))))) h = refl
+by-bit (suc (suc (suc (suc (suc (suc zero)))))) h = refl
+by-bit (suc (suc (suc (suc (suc (suc (suc zero))))))) h = refl
+by-bit (suc (suc (suc (suc (suc (suc (suc (suc zero)))))))) h = refl
+by-bit (suc (suc (suc (suc (suc (suc (suc (suc (suc n))))))))) h = absurd (omega arith)
+
+pub none-above : (n : ℕ) → 8 < n → false ≡ upsamples n
+none-above n h =
+    rw (ne-eqb n 1 (λ e. omega (arith, e)), ne-eqb n 2 (λ e. omega (arith, e)), ne-eqb n 4 (λ e. omega (arith, e)), ne-eqb n 8 (λ e. omega (arith, e))) refl
+
+-- the tests of a record
+pub record-good : (f : Frame) (up passes levels sizes first second r : Bool)
+    → up ≡ upsamples (f .upsampling)
     → passes ≡ (leb 1 (f .«num_passes») && leb (f .«num_passes») 11)
     → levels ≡ (leb (f .«lf_level») 4 && leb (f .«group_size_shift») 3)
     → sizes ≡ (leb (f .width) 1073760511 && leb (f .height) 1073760511)
-    → first ≡ (upsamples && passes)
+    → first ≡ (up && passes)
     → second ≡ (levels && sizes)
     → r ≡ (first && second)
     → r ≡ goodRecord f
 unfolding goodRecord
-record-good f small large upsamples passes levels sizes first second r e1 e2 e3 e4 e5 e6 e7 e8 e9 = rw (← e1, ← e2, ← e3, ← e4, ← e5, ← e6, ← e7, ← e8) e9
+record-good f up passes levels sizes first second r e1 e2 e3 e4 e5 e6 e7 = rw (← e1, ← e2, ← e3, ← e4, ← e5, ← e6) e7
 
 -- a size with no upsampling to divide by, and with one
 module _ (n u l : ℕ) (h : l ≤ 4) where

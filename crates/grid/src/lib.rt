@@ -17,7 +17,7 @@ ghost use Prim.Native.Nat.{_*_, _<_, _≤_, _^_};
 ghost use Rattle.bits.specs.Refusals.{pick};
 ghost use Rattle.grid.specs.Groups.{sampled, told, rectFor, sizeOf, touchFor, lfIndexOf, indexFor};
 ghost use Rattle.grid.specs.Sizes.{sample, sectionsOf};
-ghost use Rattle.grid.specs.Measured.{goodRecord, zeroSize, tooMany, refusedGrid, laid, gridOf};
+ghost use Rattle.grid.specs.Measured.{upsamples, goodRecord, zeroSize, tooMany, refusedGrid, laid, gridOf};
 
 // The numbers of a frame that its geometry needs.
 pub struct Frame {
@@ -76,13 +76,22 @@ pub struct Touches {
     pub refusal: Refusal,
 }
 
+// 1, 2, 4 or 8, by bits 1, 2, 4 and 8 of one number.
+fn upsamples(n: u32) -> bool
+    ensures { λ r. ⌜ r ≡ upsamples n ⌝ }
+{
+    if n <= 8 {
+        (278u32 >> n) & 1 == 1
+    } else {
+        false
+    }
+}
+
 // Refusal 8, BadRecord, is given exactly where this is false.
 fn is_good(f: Frame) -> bool
     ensures { λ r. ⌜ r ≡ goodRecord f ⌝ }
 {
-    let small = bits::either(f.upsampling == 1, f.upsampling == 2);
-    let large = bits::either(f.upsampling == 4, f.upsampling == 8);
-    let upsamples = bits::either(small, large);
+    let upsamples = upsamples(f.upsampling);
     let passes = bits::both(1 <= f.num_passes, f.num_passes <= 11);
     let levels = bits::both(f.lf_level <= 4, f.group_size_shift <= 3);
     let sizes = bits::both(f.width <= 1073760511, f.height <= 1073760511);

@@ -3,6 +3,7 @@ use bits::Cursor;
 use bits::Field;
 use bits::begin;
 use bits::idle;
+use bits::kept;
 use bits::refused_at;
 use bits::take;
 ghost use mathlib.Core.Path.{_≡_};
@@ -16,7 +17,7 @@ pub fn read_f16_if(s: &[u8], c: Cursor, on: bool, default: u32) -> Field
     if idle(c, on) {
         return Field {
             value: default,
-            next: c,
+            next: kept(c),
         };
     }
     let at = c.at;

@@ -5,6 +5,7 @@ use bits::Sum;
 use bits::begin;
 use bits::bit_count;
 use bits::idle;
+use bits::kept;
 use bits::stop;
 ghost use mathlib.Core.Path.{_≡_};
 ghost use Prim.Native.Nat.{_+_, _*_, _≤_, _<_, _^_};
@@ -35,7 +36,7 @@ pub fn skip_bits_if(s: &[u8], c: Cursor, on: bool, n: Sum) -> Cursor
     ensures { λ r. ⌜ r ≡ field (now (s .entry)) on (skip (whole n)) 0 c .next ⌝ }
 {
     if idle(c, on) {
-        return c;
+        return kept(c);
     }
     let at = c.at;
     let end = bit_count(s);

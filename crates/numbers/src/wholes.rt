@@ -7,15 +7,16 @@ use bits::Refusal;
 use bits::Wide;
 use bits::begin;
 use bits::idle;
+use bits::kept;
+use bits::look_ahead;
 use bits::low_bits;
-use bits::peek_bits;
 use bits::reaches;
 use bits::refused_at;
 use bits::take;
 ghost use mathlib.Core.Path.{_≡_};
 ghost use mathlib.Core.Bool.{true, _&&_};
 ghost use Prim.Native.Nat.{_+_, _*_, _^_, _<_, _≤_};
-ghost use Rattle.bits.specs.Bits.{there};
+ghost use Rattle.bits.specs.Bits.{there, ahead};
 ghost use Rattle.bits.specs.Steps.{run, gives, takes, refusedAt};
 ghost use Rattle.bits.specs.Codec.{u32, cases, u64, chosen, more, long, field, wideOf, signed};
 
@@ -32,11 +33,15 @@ fn choose(d: Choices, k: u32) -> Choice
     if k == 2 { d.d2 } else { d.d3 }
 }
 
-// Whether a selector is there from p on, and n bits after it.
-fn u32_is_there(s: &[u8], p: u64, n: u32) -> bool
+// Whether a selector is there from p on, and n bits after it, given whether eight bytes are.
+fn u32_is_there(s: &[u8], p: u64, n: u32, whole: bool) -> bool
+    requires { ⌜ whole ≡ ahead (now s) p .whole ⌝ }
     ensures { λ r. ⌜ r ≡ (there (now (s .entry)) p 2 && there (now (s .entry)) (p + 2) n) ⌝ }
 {
-    if 32 < n { false } else { reaches(s, p, n + 2) }
+    if 32 < n {
+        return false;
+    }
+    if whole { true } else { reaches(s, p, n + 2) }
 }
 
 // U32 where it is asked for: the selector, then its choice. Both lie in the 56 bits ahead.
@@ -46,17 +51,17 @@ pub fn read_u32_if(s: &[u8], c: Cursor, on: bool, d: Choices, default: u32) -> F
     if idle(c, on) {
         return Field {
             value: default,
-            next: c,
+            next: kept(c),
         };
     }
     let at = c.at;
-    let ahead = peek_bits(s, at);
-    let e = choose(d, low_bits(ahead, 2));
-    if !u32_is_there(s, at, e.bits) {
+    let a = look_ahead(s, at);
+    let e = choose(d, low_bits(a.bits, 2));
+    if !u32_is_there(s, at, e.bits, a.whole) {
         return refused_at(4, at);
     }
     Field {
-        value: std::num::wrapping_add_u32(e.base, low_bits(ahead >> 2, e.bits)),
+        value: std::num::wrapping_add_u32(e.base, low_bits(a.bits >> 2, e.bits)),
         next: begin(at + 2 + (e.bits as u64)),
     }
 }
@@ -74,7 +79,7 @@ pub fn read_enum_if(s: &[u8], c: Cursor, on: bool, d: Choices, n: u32, default: 
     if idle(c, on) {
         return Field {
             value: default,
-            next: c,
+            next: kept(c),
         };
     }
     let at = c.at;
@@ -180,7 +185,7 @@ pub fn read_u64_if(s: &[u8], c: Cursor, on: bool, default: u64) -> Wide
     if idle(c, on) {
         return Wide {
             value: default,
-            next: c,
+            next: kept(c),
         };
     }
     let at = c.at;

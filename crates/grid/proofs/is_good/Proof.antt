@@ -1,17 +1,11 @@
--- `is_good`: nine tests, and the law that they are the definition's.
+-- `is_good`: seven tests, and the law that they are the definition's.
 use borrow.Author.Needs.{needs}
 use Rattle.grid.proofs.Steps.{record-good}
 use Rattle.grid.proofs.is_good.Statement.{statement}
 use Rattle.grid.proofs.is_good.Tie as tie
 
-either-requires : tie.Need-either-requires
-either-requires c κs = search needs
-
-either-requires-2 : tie.Need-either-requires-2
-either-requires-2 c κs = search needs
-
-either-requires-3 : tie.Need-either-requires-3
-either-requires-3 c κs = search needs
+upsamples-requires : tie.Need-upsamples-requires
+upsamples-requires c κs = search needs
 
 both-requires : tie.Need-both-requires
 both-requires c κs = search needs
@@ -33,18 +27,15 @@ both-requires-6 c κs = search needs
 
 returns : tie.Need-returns
 returns c =
-    record-good (c .before .before .before .before .before .before .before .before .before .before .before .before .before .before .before .before .before .before .before .args .f) _ _ _ _ _ _ _ _ _
-    (c .before .before .before .before .before .before .before .before .before .before .before .before .before .before .before .before .either .ensures) (c .before .before .before .before .before .before .before .before .before .before .before .before .before .either2 .ensures) (c .before .before .before .before .before .before .before .before .before .before .before .before .either3 .ensures)
-    (c .before .before .before .before .before .before .before .before .before .both .ensures) (c .before .before .before .before .before .before .both2 .ensures) (c .before .before .before .both3 .ensures)
+    record-good (c .before .before .before .before .before .before .before .before .before .before .before .before .before .args .f) _ _ _ _ _ _ _
+    (c .before .before .before .before .before .before .before .before .before .before .before .before .upsamples .ensures) (c .before .before .before .before .before .before .before .before .before .both .ensures) (c .before .before .before .before .before .before .both2 .ensures) (c .before .before .before .both3 .ensures)
     (c .before .before .both4 .ensures) (c .before .both5 .ensures) (c .both6 .ensures)
 
 pub is-good-spec : {M : Type 1} → statement M
 is-good-spec =
     tie.close
     (tie.spec
-    either-requires
-    either-requires-2
-    either-requires-3
+    upsamples-requires
     both-requires
     both-requires-2
     both-requires-3

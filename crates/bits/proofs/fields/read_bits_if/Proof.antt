@@ -3,7 +3,7 @@ use borrow.Author.Needs.{needs}
 use mathlib.Core.Path.{refl, sym, _∙_}
 use Rattle.bits.specs.Codec.{u}
 use Rattle.bits.specs.Steps.{gives}
-use Rattle.bits.proofs.Steps.{field-idle}
+use Rattle.bits.proofs.Steps.{field-passed}
 use Rattle.bits.proofs.Codecs.{given, first-taken, first-cut}
 use Rattle.bits.proofs.fields.read_bits_if.Statement.{statement}
 use Rattle.bits.proofs.fields.read_bits_if.Tie as tie
@@ -11,8 +11,13 @@ use Rattle.bits.proofs.fields.read_bits_if.Tie as tie
 idle-requires : tie.Need-idle-requires
 idle-requires c κs = search needs
 
+kept-requires : tie.Need-kept-requires
+kept-requires c κs = search needs
+
 returns : tie.Need-returns
-returns c = sym (field-idle (c .before .before .before .args .s .now) _ _ _ _ _ (c .before .idle .ensures) (c .if1 .taken))
+returns c =
+    let a = c .before .before .before .before .args in
+    field-passed (a .s .now) (a .on) (u (a .n)) _ _ _ (c .before .before .idle .ensures) (c .before .if1 .taken) _ (c .kept .ensures)
 
 take-requires : tie.Need-take-requires
 take-requires c κs = search needs
@@ -38,6 +43,7 @@ read-bits-if-spec =
     tie.close
     (tie.spec
     idle-requires
+    kept-requires
     returns
     take-requires
     refused-at-requires

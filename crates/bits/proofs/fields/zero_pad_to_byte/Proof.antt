@@ -14,8 +14,11 @@ use Rattle.bits.proofs.fields.zero_pad_to_byte.Tie as tie
 idle-requires : tie.Need-idle-requires
 idle-requires c κs = search needs
 
+kept-requires : tie.Need-kept-requires
+kept-requires c κs = search needs
+
 returns : tie.Need-returns
-returns c = sym (ap (λ (f : Field). f .next) (field-idle (c .before .before .before .args .s .now) true padding 0 _ _ (c .before .idle .ensures) (c .if1 .taken)))
+returns c = c .kept .ensures ∙ sym (ap (λ (f : Field). f .next) (field-idle (c .before .before .before .before .args .s .now) true padding 0 _ _ (c .before .before .idle .ensures) (c .before .if1 .taken)))
 
 sub-n : tie.Need-sub-n
 sub-n c = search needs
@@ -61,6 +64,7 @@ zero-pad-to-byte-spec =
     tie.close
     (tie.spec
     idle-requires
+    kept-requires
     returns
     sub-n
     cast-n

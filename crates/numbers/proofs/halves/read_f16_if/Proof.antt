@@ -2,7 +2,7 @@
 use borrow.Author.Needs.{needs}
 use mathlib.Core.Path.{refl, sym, _∙_}
 use Rattle.bits.specs.Codec.{f16}
-use Rattle.bits.proofs.Steps.{field-idle}
+use Rattle.bits.proofs.Steps.{field-passed}
 use Rattle.bits.proofs.Codecs.{given, first-taken, first-cut, half-bad, half-good}
 use Rattle.numbers.proofs.halves.read_f16_if.Statement.{statement}
 use Rattle.numbers.proofs.halves.read_f16_if.Tie as tie
@@ -10,8 +10,11 @@ use Rattle.numbers.proofs.halves.read_f16_if.Tie as tie
 idle-requires : tie.Need-idle-requires
 idle-requires c κs = search needs
 
+kept-requires : tie.Need-kept-requires
+kept-requires c κs = search needs
+
 returns : tie.Need-returns
-returns c = sym (field-idle (c .before .before .before .args .s .now) _ _ _ _ _ (c .before .idle .ensures) (c .if1 .taken))
+returns c = field-passed (c .before .before .before .before .args .s .now) _ _ _ _ _ (c .before .before .idle .ensures) (c .before .if1 .taken) _ (c .kept .ensures)
 
 take-requires : tie.Need-take-requires
 take-requires c κs = search needs
@@ -49,6 +52,7 @@ read-f16-if-spec =
     tie.close
     (tie.spec
     idle-requires
+    kept-requires
     returns
     take-requires
     refused-at-requires

@@ -15,8 +15,11 @@ use Rattle.numbers.proofs.skips.skip_bits_if.Tie as tie
 idle-requires : tie.Need-idle-requires
 idle-requires c κs = search needs
 
+kept-requires : tie.Need-kept-requires
+kept-requires c κs = search needs
+
 returns : tie.Need-returns
-returns c = sym (ap (λ (f : Field). f .next) (field-idle (c .before .before .before .args .s .now) (c .before .before .before .args .on) (skip (whole (c .before .before .before .args .n))) 0 _ _ (c .before .idle .ensures) (c .if1 .taken)))
+returns c = c .kept .ensures ∙ sym (ap (λ (f : Field). f .next) (field-idle (c .before .before .before .before .args .s .now) (c .before .before .before .before .args .on) (skip (whole (c .before .before .before .before .args .n))) 0 _ _ (c .before .before .idle .ensures) (c .before .if1 .taken)))
 
 bit-count-requires : tie.Need-bit-count-requires
 bit-count-requires c κs = search needs
@@ -56,6 +59,7 @@ skip-bits-if-spec =
     tie.close
     (tie.spec
     idle-requires
+    kept-requires
     returns
     bit-count-requires
     stop-requires

@@ -1,7 +1,7 @@
 -- `read_enum_if`: passed by, refused in the U32, a case that is not there, or the U32's own value.
 use borrow.Author.Needs.{needs}
 use mathlib.Core.Path.{sym, _∙_}
-use Rattle.bits.proofs.Steps.{field-idle}
+use Rattle.bits.proofs.Steps.{field-passed}
 use Rattle.bits.proofs.Codecs.{case-refused, case-unknown, case-known}
 use Rattle.numbers.proofs.wholes.read_enum_if.Statement.{statement}
 use Rattle.numbers.proofs.wholes.read_enum_if.Tie as tie
@@ -9,8 +9,11 @@ use Rattle.numbers.proofs.wholes.read_enum_if.Tie as tie
 idle-requires : tie.Need-idle-requires
 idle-requires c κs = search needs
 
+kept-requires : tie.Need-kept-requires
+kept-requires c κs = search needs
+
 returns : tie.Need-returns
-returns c = sym (field-idle (c .before .before .before .args .s .now) _ _ _ _ _ (c .before .idle .ensures) (c .if1 .taken))
+returns c = field-passed (c .before .before .before .before .args .s .now) _ _ _ _ _ (c .before .before .idle .ensures) (c .before .if1 .taken) _ (c .kept .ensures)
 
 read-u32-if-requires : tie.Need-read-u32-if-requires
 read-u32-if-requires c κs = search needs
@@ -33,6 +36,7 @@ read-enum-if-spec =
     tie.close
     (tie.spec
     idle-requires
+    kept-requires
     returns
     read-u32-if-requires
     returns-2

@@ -3,7 +3,7 @@ use borrow.Author.Needs.{needs}
 use mathlib.Core.Path.{refl, sym, _∙_, ap}
 use borrow.Author.Tests.{eq-eqb, ne-eqb}
 use Rattle.bits.specs.Codec.{u64, long, wideOf}
-use Rattle.bits.proofs.Steps.{field-idle}
+use Rattle.bits.proofs.Steps.{field-passed}
 use Rattle.bits.proofs.Codecs.{first-taken, first-cut}
 use Rattle.numbers.proofs.Long.{wide-given, long-0, long-1, long-2, long-3}
 use Rattle.numbers.proofs.wholes.read_u64_if.Statement.{statement}
@@ -12,8 +12,11 @@ use Rattle.numbers.proofs.wholes.read_u64_if.Tie as tie
 idle-requires : tie.Need-idle-requires
 idle-requires c κs = search needs
 
+kept-requires : tie.Need-kept-requires
+kept-requires c κs = search needs
+
 returns : tie.Need-returns
-returns c = sym (ap wideOf (field-idle (c .before .before .before .args .s .now) (c .before .before .before .args .on) u64 _ _ _ (c .before .idle .ensures) (c .if1 .taken)))
+returns c = ap wideOf (field-passed (c .before .before .before .before .args .s .now) (c .before .before .before .before .args .on) u64 _ _ _ (c .before .before .idle .ensures) (c .before .if1 .taken) _ (c .kept .ensures))
 
 take-requires : tie.Need-take-requires
 take-requires c κs = search needs
@@ -73,6 +76,7 @@ read-u64-if-spec =
     tie.close
     (tie.spec
     idle-requires
+    kept-requires
     returns
     take-requires
     wide-refused-requires

@@ -1,0 +1,82 @@
+-- `word_at_end`: after each turn the value is the bytes so far; behind the last there are zeros.
+use borrow.Author.Needs.{needs}
+use native.Mathlib.Omega.{arith}
+use Prim.Native.Nat.{ℕ, _+_, _-_, _*_, _%_, _^_, _≤_, _<_}
+use mathlib.Core.Path.{_≡_, refl, sym, _∙_, ap}
+use lib.ListN.{length, getD}
+use lib.Bits.{bitOr}
+use Rattle.bits.specs.Bits.{bitsAt}
+use Rattle.bits.proofs.Windows.{byte-more, ended}
+use Rattle.bits.proofs.window.word_at_end.Statement.{statement}
+use Rattle.bits.proofs.window.word_at_end.Tie as tie
+
+abbrev Inv-loop : tie.InvT-loop
+Inv-loop s i v₀ k₀ shift₀ v k shift = (i ≤ k) × (k ≤ i + 8) × (shift ≡ 8 * (k - i)) × (v ≡ bitsAt s (8 * i) (8 * (k - i)))
+
+abbrev μ-loop : tie.MeasureT-loop
+μ-loop s i v₀ k₀ shift₀ v k shift = length s - k
+
+loop-holds : tie.Need-loop-holds Inv-loop μ-loop
+unfolding bitsAt
+loop-holds c =
+    let none : c .before .args .i - c .before .args .i ≡ 0 = omega arith in
+    (search needs, omega arith, omega arith, rw none refl)
+
+shared-slice-read-wide : tie.Need-shared-slice-read-wide Inv-loop μ-loop
+shared-slice-read-wide c = search needs
+
+wide-requires : tie.Need-wide-requires Inv-loop μ-loop
+wide-requires c κs = search needs
+
+cast-v : tie.Need-cast-v Inv-loop μ-loop
+cast-v c = search needs
+
+shl-v : tie.Need-shl-v Inv-loop μ-loop
+shl-v c = search needs
+
+add-k : tie.Need-add-k Inv-loop μ-loop
+add-k c = search needs
+
+add-shift : tie.Need-add-shift Inv-loop μ-loop
+add-shift c = search needs
+
+loop-less : tie.Need-loop-less Inv-loop μ-loop
+loop-less c = search needs
+
+loop-again : tie.Need-loop-again Inv-loop μ-loop
+loop-again c =
+    let a = c .before .before .before .before .before .args in
+    let l = c .before .before .before .loop in
+    let n : ℕ = l .k - a .i in
+    let at : c .wide .result ≡ getD (a .s .now) (a .i + n) 0 = c .wide .ensures .0 ∙ ap (λ (j : ℕ). getD (a .s .now) j 0) (omega arith) in (
+      omega arith,
+      omega arith,
+      omega arith,
+      ap (λ (j : ℕ). bitOr (l .v) (c .wide .result * 2 ^ j % 18446744073709551616)) (l .inv .2)
+          ∙ byte-more (a .s .now) (a .i) (l .v) _ n (omega arith) (c .wide .ensures .1) at (l .inv .3)
+          ∙ ap (λ (j : ℕ). bitsAt (a .s .now) (8 * a .i) (8 * j)) (omega arith),
+    )
+
+returns : tie.Need-returns Inv-loop μ-loop
+returns c =
+    let a = c .before .before .before .args in
+    let l = c .before .loop in
+    let n : ℕ = 8 * (l .k - a .i) in
+    l .inv .3 ∙ sym (ended (a .s .now) (8 * a .i) n (64 - n) (omega arith)) ∙ ap (bitsAt (a .s .now) (8 * a .i)) (omega arith)
+
+pub word-at-end-spec : {M : Type 1} → statement M
+word-at-end-spec =
+    tie.close
+    (tie.spec
+    Inv-loop
+    μ-loop
+    loop-holds
+    shared-slice-read-wide
+    wide-requires
+    cast-v
+    shl-v
+    add-k
+    add-shift
+    loop-less
+    loop-again
+    returns)
