@@ -8,10 +8,10 @@ use mathlib.Core.List.{List}
 use mathlib.Core.Bool.{Bool, true, false}
 use mathlib.Core.Logic.{by-cases}
 use native.Mathlib.Decide.{decLe}
-use borrow.Author.Tests.{lt-ltb, le-ltb, le-leb, lt-leb, leb-true}
+use borrow.Author.Tests.{le-leb, lt-leb, leb-true}
 use lib.ListN.{length, getD, List·getD-eq-default}
 use lib.Bits.{bitAnd, bitOr, and-mask, or-shifted-r}
-use lib.Dec.{leb, ltb, lit<}
+use lib.Dec.{leb, lit<}
 use lib.Pow.{pow-add, shl-exact, high, low, mod-pow-add}
 use Rattle.bits.specs.declared.window.Ahead.{Ahead}
 use Rattle.bits.specs.Bits.{bitAt, bitsAt, bitCount, ahead}
@@ -53,7 +53,7 @@ unfolding bitsAt
 bits-past s p zero h = refl
 bits-past s p (suc n) h = rw (bits-past s p n h, bit-past s (p + n) (omega arith), zero-mul (2 ^ n)) refl
 
-pub ended : (s : List ℕ) (p k n : ℕ) → 8 * length s ≤ p + k → bitsAt s p (k + n) ≡ bitsAt s p k
+ended : (s : List ℕ) (p k n : ℕ) → 8 * length s ≤ p + k → bitsAt s p (k + n) ≡ bitsAt s p k
 ended s p k n h = bits-add s p k n ∙ rw (bits-past s (p + k) n h, zero-mul (2 ^ k), zero-add (bitsAt s p k)) refl
 
 -- a byte's lowest bits
@@ -81,6 +81,13 @@ byte-more s i v b k h b< eb ev =
     let byte : bitsAt s (8 * i + 8 * k) 8 ≡ b = ap (λ (x : ℕ). bitsAt s x 8) place ∙ sym (byte-first s (i + k) b b< eb) in
     joined ∙ rw (more, bits-add s (8 * i) (8 * k) 8, byte, ev) refl
 
+-- bytes up to the eighth or the last are a word
+pub all-bytes : (s : List ℕ) (i n end : ℕ) → end ≡ min (length s) (i + 8) → end ≤ i + n → n ≤ 8 → bitsAt s (8 * i) (8 * n) ≡ bitsAt s (8 * i) 64
+all-bytes s i n end ee he hn =
+    by-cases (decLe (length s) (i + n))
+    (λ y. sym (ended s (8 * i) (8 * n) (64 - 8 * n) (omega (arith, y))) ∙ ap (bitsAt s (8 * i)) (omega arith))
+    (λ y. let eight : n ≡ 8 = omega (arith, y) in ap (λ (j : ℕ). bitsAt s (8 * i) (8 * j)) eight)
+
 -- what lies ahead, as the code has it: the bits from the word that holds them, and two tests
 pub ahead-by : (s : List ℕ) (p b : ℕ) (w : Bool) → b ≡ bitsAt s p 56 → w ≡ leb (p / 8 + 8) (min (length s) 16777216) → _≡_ {A = Ahead} (record { bits = b; whole = w }) (ahead s p)
 unfolding ahead
@@ -91,13 +98,10 @@ from-word s p w r b ew er eb =
     let place : 8 * (p / 8) + p % 8 ≡ p = omega arith in
     eb ∙ rw (ew, er) (part-of s (8 * (p / 8)) 64 (p % 8) 56 (omega arith) ∙ ap (λ (q : ℕ). bitsAt s q 56) place)
 
-pub whole-here : (p n : ℕ) → p / 8 + 8 ≤ n → ltb p 134217672 ≡ leb (p / 8 + 8) (min n 16777216)
-whole-here p n h =
-    by-cases (decLe (p / 8 + 8) 16777216)
-    (λ y. lt-ltb p 134217672 (omega (arith, y)) ∙ sym (le-leb (p / 8 + 8) (min n 16777216) (omega (arith, y))))
-    (λ y. le-ltb p 134217672 (omega (arith, y)) ∙ sym (lt-leb (p / 8 + 8) (min n 16777216) (omega (arith, y))))
+pub whole-here : (p n : ℕ) → p / 8 < min n 16777216 - 7 → true ≡ leb (p / 8 + 8) (min n 16777216)
+whole-here p n h = sym (le-leb (p / 8 + 8) (min n 16777216) (omega arith))
 
-pub not-whole : (p n : ℕ) → n < p / 8 + 8 → false ≡ leb (p / 8 + 8) (min n 16777216)
+pub not-whole : (p n : ℕ) → min n 16777216 - 7 ≤ p / 8 → false ≡ leb (p / 8 + 8) (min n 16777216)
 not-whole p n h = sym (lt-leb (p / 8 + 8) (min n 16777216) (omega arith))
 
 -- where eight bytes are ahead, so are up to 56 bits

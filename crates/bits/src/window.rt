@@ -1,6 +1,6 @@
 // What lies ahead of a place, from whole bytes: eight at once where the input has eight left.
 ghost use mathlib.Core.Path.{_≡_};
-ghost use Prim.Native.Nat.{_+_, _*_, _/_, _%_, _^_, _≤_, _<_, min};
+ghost use Prim.Native.Nat.{_+_, _-_, _*_, _/_, _%_, _^_, _≤_, _<_, min};
 ghost use lib.ListN.{length};
 ghost use Rattle.bits.specs.Bits.{bitsAt, ahead};
 
@@ -31,15 +31,22 @@ fn word(s: &[u8], i: usize) -> u64
     b6 | (wide(s[i + 7]) << 56)
 }
 
-// The same where fewer than eight are left, or none: zeros behind the last.
+fn least(a: usize, b: usize) -> usize
+    ensures { λ r. ⌜ r ≡ min a b ⌝ }
+{
+    if a < b { a } else { b }
+}
+
+// The same one after another, zeros behind the last: where fewer than eight are left, or none.
 fn word_at_end(s: &[u8], i: usize) -> u64
-    requires { ⌜ length (now s) < i + 8 ⌝ }
+    requires { ⌜ i < 2 ^ 61 ⌝ }
     ensures { λ r. ⌜ r ≡ bitsAt (now (s .entry)) (8 * i) 64 ⌝ }
 {
+    let end = least(s.len(), i + 8);
     let mut v: u64 = 0;
     let mut k: usize = i;
     let mut shift: u32 = 0;
-    while k < s.len() {
+    while k < end {
         let b = wide(s[k]);
         v = v | (b << shift);
         k += 1;
@@ -56,16 +63,29 @@ fn part(v: u64, r: u64) -> u64
     (v >> r) & 72057594037927935
 }
 
-// What lies ahead of p. None is read behind the first 16,777,216 bytes, so the last place with eight bytes ahead is 8 * 16,777,208 + 7.
+// From how many bytes on, the first and those after it, there are eight that may be read. None is read behind the first 16,777,216.
+fn word_places(s: &[u8]) -> u64
+    ensures { λ r. ⌜ r ≡ min (length (now (s .entry))) 16777216 - 7 ⌝ }
+{
+    if s.len() < 8 {
+        return 0;
+    }
+    if 16777216 < s.len() {
+        return 16777209;
+    }
+    (s.len() - 7) as u64
+}
+
+// What lies ahead of p.
 pub fn look_ahead(s: &[u8], p: u64) -> Ahead
     ensures { λ r. ⌜ r ≡ ahead (now (s .entry)) p ⌝ }
 {
     let i = p >> 3;
-    if i + 8 <= (s.len() as u64) {
+    if i < word_places(s) {
         let w = word(s, i as usize);
         Ahead {
             bits: part(w, p & 7),
-            whole: p < 134217672,
+            whole: true,
         }
     } else {
         let w = word_at_end(s, i as usize);

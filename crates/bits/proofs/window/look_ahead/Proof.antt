@@ -7,40 +7,40 @@ use Rattle.bits.proofs.Windows.{ahead-by, from-word, whole-here, not-wh
 use Rattle.bits.proofs.window.look_ahead.Statement.{statement}
 use Rattle.bits.proofs.window.look_ahead.Tie as tie
 
-add-if1 : tie.Need-add-if1
-add-if1 c = search needs
+word-places-requires : tie.Need-word-places-requires
+word-places-requires c κs = search needs
 
 word-requires : tie.Need-word-requires
 word-requires c κs = search needs
 
 part-requires : tie.Need-part-requires
-part-requires c κs = omega (arith, and-le-r (c .before .before .before .args .p) 7)
+part-requires c κs = omega (arith, and-le-r (c .before .before .before .before .args .p) 7)
 
 word-at-end-requires : tie.Need-word-at-end-requires
 word-at-end-requires c κs = search needs
 
 part-requires-2 : tie.Need-part-requires-2
-part-requires-2 c κs = omega (arith, and-le-r (c .before .before .before .args .p) 7)
+part-requires-2 c κs = omega (arith, and-le-r (c .before .before .before .before .args .p) 7)
 
 returns : tie.Need-returns
 returns c =
-    let a = c .before .before .before .before .args in
+    let a = c .before .before .before .before .before .args in
     ahead-by (a .s .now) (a .p) _ _
     (from-word (a .s .now) (a .p) _ _ _ (c .before .word .ensures) (and-mask (a .p) 3) (c .part .ensures))
-    (whole-here (a .p) (length (a .s .now)) (c .before .before .if1 .taken))
+    (whole-here (a .p) (length (a .s .now)) (omega (arith, c .before .before .before .word-places .ensures, c .before .before .if1 .taken)))
 
 returns-2 : tie.Need-returns-2
 returns-2 c =
-    let a = c .before .before .before .before .args in
+    let a = c .before .before .before .before .before .args in
     ahead-by (a .s .now) (a .p) _ _
     (from-word (a .s .now) (a .p) _ _ _ (c .before .word-at-end .ensures) (and-mask (a .p) 3) (c .part2 .ensures))
-    (not-whole (a .p) (length (a .s .now)) (c .before .before .if1 .left))
+    (not-whole (a .p) (length (a .s .now)) (omega (arith, c .before .before .before .word-places .ensures, c .before .before .if1 .left)))
 
 pub look-ahead-spec : {M : Type 1} → statement M
 look-ahead-spec =
     tie.close
     (tie.spec
-    add-if1
+    word-places-requires
     word-requires
     part-requires
     word-at-end-requires

@@ -6,20 +6,26 @@ use mathlib.Core.Path.{_≡_, refl, sym, _∙_, ap}
 use lib.ListN.{length, getD}
 use lib.Bits.{bitOr}
 use Rattle.bits.specs.Bits.{bitsAt}
-use Rattle.bits.proofs.Windows.{byte-more, ended}
+use Rattle.bits.proofs.Windows.{byte-more, all-bytes}
 use Rattle.bits.proofs.window.word_at_end.Statement.{statement}
 use Rattle.bits.proofs.window.word_at_end.Tie as tie
 
 abbrev Inv-loop : tie.InvT-loop
-Inv-loop s i v₀ k₀ shift₀ v k shift = (i ≤ k) × (k ≤ i + 8) × (shift ≡ 8 * (k - i)) × (v ≡ bitsAt s (8 * i) (8 * (k - i)))
+Inv-loop s i end v₀ k₀ shift₀ v k shift = (i ≤ k) × (k ≤ i + 8) × (shift ≡ 8 * (k - i)) × (v ≡ bitsAt s (8 * i) (8 * (k - i)))
 
 abbrev μ-loop : tie.MeasureT-loop
-μ-loop s i v₀ k₀ shift₀ v k shift = length s - k
+μ-loop s i end v₀ k₀ shift₀ v k shift = end - k
+
+add-least : tie.Need-add-least Inv-loop μ-loop
+add-least c = search needs
+
+least-requires : tie.Need-least-requires Inv-loop μ-loop
+least-requires c κs = search needs
 
 loop-holds : tie.Need-loop-holds Inv-loop μ-loop
 unfolding bitsAt
 loop-holds c =
-    let none : c .before .args .i - c .before .args .i ≡ 0 = omega arith in
+    let none : c .before .before .args .i - c .before .before .args .i ≡ 0 = omega arith in
     (search needs, omega arith, omega arith, rw none refl)
 
 shared-slice-read-wide : tie.Need-shared-slice-read-wide Inv-loop μ-loop
@@ -45,7 +51,7 @@ loop-less c = search needs
 
 loop-again : tie.Need-loop-again Inv-loop μ-loop
 loop-again c =
-    let a = c .before .before .before .before .before .args in
+    let a = c .before .before .before .before .before .before .args in
     let l = c .before .before .before .loop in
     let n : ℕ = l .k - a .i in
     let at : c .wide .result ≡ getD (a .s .now) (a .i + n) 0 = c .wide .ensures .0 ∙ ap (λ (j : ℕ). getD (a .s .now) j 0) (omega arith) in (
@@ -59,10 +65,9 @@ loop-again c =
 
 returns : tie.Need-returns Inv-loop μ-loop
 returns c =
-    let a = c .before .before .before .args in
+    let a = c .before .before .before .before .args in
     let l = c .before .loop in
-    let n : ℕ = 8 * (l .k - a .i) in
-    l .inv .3 ∙ sym (ended (a .s .now) (8 * a .i) n (64 - n) (omega arith)) ∙ ap (bitsAt (a .s .now) (8 * a .i)) (omega arith)
+    l .inv .3 ∙ all-bytes (a .s .now) (a .i) (l .k - a .i) _ (c .before .before .least .ensures) (omega arith) (omega arith)
 
 pub word-at-end-spec : {M : Type 1} → statement M
 word-at-end-spec =
@@ -70,6 +75,8 @@ word-at-end-spec =
     (tie.spec
     Inv-loop
     μ-loop
+    add-least
+    least-requires
     loop-holds
     shared-slice-read-wide
     wide-requires
