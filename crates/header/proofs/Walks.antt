@@ -1,5 +1,5 @@
 -- Laws of arrays: what is left of a walk over one is what its definition has left to read.
-use Prim.Native.Nat.{ℕ, zero, suc, _+_, _-_, _*_, _/_, _≤_, _<_}
+use Prim.Native.Nat.{ℕ, zero, suc, _+_, _-_, _*_, _/_, _%_, _^_, _≤_, _<_}
 use native.Mathlib.Omega.{arith}
 use native.Mathlib.Numerals.{add-one}
 use native.Mathlib.Nat.{le-refl}
@@ -7,18 +7,21 @@ use mathlib.Core.Path.{_≡_, refl, sym, _∙_, ap}
 use mathlib.Core.List.{List, [], _∷_, _++_, append-nil}
 use mathlib.Core.Logic.{by-cases}
 use native.Mathlib.Decide.{decLe}
-use lib.Dec.{ltb}
-use borrow.Author.Tests.{lt-ltb, le-ltb, ltb-true, le-leb, lt-leb}
+use lib.Dec.{ltb, leb}
+use borrow.Author.Tests.{lt-ltb, le-ltb, ltb-true, le-leb, lt-leb, leb-true, not-true, not-false}
 use lib.ListN.{length, set, take, drop, length-set, length-replicate, replicate}
 use lib.Seq.{sets, length-sets, sets-eq, drop-length}
 use Rattle.bits.specs.declared.Cursor.{Cursor}
+use Rattle.bits.specs.declared.pieces.Piece.{Piece}
 use Rattle.bits.specs.declared.Field.{Field}
 use mathlib.Core.Bool.{Bool, true, false, not, _&&_, false≢true}
-use Rattle.bits.specs.Refusals.{start, clear}
+use Rattle.bits.specs.Refusals.{pick, start, clear}
 use Rattle.bits.specs.Bits.{bitsAt, bitCount, there}
-use Rattle.bits.specs.Steps.{stopped, run}
+use Rattle.bits.specs.Steps.{stopped, run, piece}
 use Rattle.bits.specs.Codec.{Codec, u, field}
 use Rattle.bits.specs.Table.{Table, ends, row, fails, Out, read, bind, times}
+use Rattle.bits.proofs.Bits.{there-parts}
+use Rattle.bits.proofs.Windows.{part-of}
 use Rattle.bits.proofs.Tables.{read-bind}
 use Rattle.bits.proofs.Reading.{field-lt, fault-stays}
 use Rattle.header.specs.declared.blending.Blending.{Blending}
@@ -94,6 +97,75 @@ sets-whole vs l e =
 
 pub byte-lt : (s : List ℕ) (c : Cursor) (f : Field) → f ≡ field s true (u 8) 0 c → f .value < 256
 byte-lt s c f e = rw e (field-lt s 8 c)
+
+-- Bytes four at a time: 32 bits that are there are four bytes that are there.
+byte-there : (s : List ℕ) (i limit : ℕ) (c : Cursor) → i < limit → clear c ≡ true → c .at + 8 ≤ bitCount s
+    → _≡_ {A = Field} (record { value = bitsAt s (c .at) 8; next = start (c .at + 8) }) (field s (ltb i limit) (u 8) 0 c)
+unfolding field run
+byte-there s i limit c low ok room = rw (lt-ltb i limit low, ok, le-leb (c .at + 8) (bitCount s) room)
+
+pub record Four (s : List ℕ) (c : Cursor) (left : ℕ) (x : Piece) : Type 0 where
+  pub wanted : 4 ≤ left
+  pub fine : clear c ≡ true
+  pub room : c .at + 32 ≤ bitCount s
+  pub value : x .value ≡ bitsAt s (c .at) 32
+  pub next : x .at ≡ c .at + 32
+
+four-by : (s : List ℕ) (c : Cursor) (left : ℕ) (x : Piece) (a b t : Bool) → leb 4 left ≡ a → clear c ≡ b → there s (c .at) 32 ≡ t
+    → x ≡ pick (a && b) (piece s (c .at) 32) (record { there = false; value = 0; at = c .at }) → x .there ≡ true → Four s c left x
+unfolding piece
+four-by s c left x true true true ea eb et ex h =
+    let is : x ≡ record { there = true; value = bitsAt s (c .at) 32; at = c .at + 32 } = ex ∙ rw et refl in
+    record {
+      wanted = leb-true 4 left ea;
+      fine = eb;
+      room = there-parts s (c .at) 32 et .1;
+      value = ap (λ (y : Piece). y .value) is;
+      next = ap (λ (y : Piece). y .at) is;
+    }
+four-by s c left x true true false ea eb et ex h =
+    let is : x ≡ record { there = false; value = 0; at = c .at } = ex ∙ rw et refl in
+    absurd (false≢true (sym (ap (λ (y : Piece). y .there) is) ∙ h))
+four-by s c left x true false t ea eb et ex h = absurd (false≢true (sym (ap (λ (y : Piece). y .there) ex) ∙ h))
+four-by s c left x false b t ea eb et ex h = absurd (false≢true (sym (ap (λ (y : Piece). y .there) ex) ∙ h))
+
+-- what was not taken, and what was
+module _ (s : List ℕ) (c : Cursor) (left : ℕ) (i : Bool) (e : i ≡ not (leb 4 left && clear c)) where
+  pub four-idle : i ≡ true → _≡_ {A = Piece} (record { there = false; value = 0; at = c .at }) (pick (leb 4 left && clear c) (piece s (c .at) 32) (record { there = false; value = 0; at = c .at }))
+  four-idle h = rw (not-true (leb 4 left && clear c) (sym e ∙ h)) refl
+
+  pub four-taken : i ≡ false → (x : Piece) → x ≡ piece s (c .at) 32 → x ≡ pick (leb 4 left && clear c) (piece s (c .at) 32) (record { there = false; value = 0; at = c .at })
+  four-taken h x ex = rw (not-false (leb 4 left && clear c) (sym e ∙ h)) ex
+
+pub four-there : (s : List ℕ) (c : Cursor) (left : ℕ) (x : Piece) → x ≡ pick (leb 4 left && clear c) (piece s (c .at) 32) (record { there = false; value = 0; at = c .at })
+    → x .there ≡ true → Four s c left x
+four-there s c left x = four-by s c left x (leb 4 left) (clear c) (there s (c .at) 32) refl refl refl
+
+module _ (count : ℕ) (s before : List ℕ) (c : Cursor) where
+  -- one byte more, of four that begin at p
+  one-of : (table : List ℕ) (at : Cursor) (i : ℕ) → Left (u 8) count count 0 s before c table at i → i < count → clear at ≡ true → at .at + 8 ≤ bitCount s
+      → (p k x v : ℕ) (after : List ℕ) → p + k ≡ at .at → k + 8 ≤ 32 → x ≡ bitsAt s p 32 → v ≡ x / 2 ^ k % 256 → after ≡ set table i v
+      → Left (u 8) count count 0 s before c after (start (at .at + 8)) (i + 1)
+  one-of table at i l h ok room p k x v after ep hk ex ev ea =
+      left-more (u 8) count count 0 s before c table at i l h _ v after (byte-there s i count at h ok room)
+      (ev ∙ ap (λ (y : ℕ). y / 2 ^ k % 2 ^ 8) ex ∙ part-of s p 32 k 8 hk ∙ ap (λ (q : ℕ). bitsAt s q 8) ep) ea
+
+  module _ (table : List ℕ) (at : Cursor) (i : ℕ) (l : Left (u 8) count count 0 s before c table at i) (x : Piece) (four : Four s at (count - i) x) where
+    pub left-four : (v0 v1 v2 v3 : ℕ) (t0 t1 t2 t3 : List ℕ) (b : Cursor)
+        → v0 ≡ x .value / 2 ^ 0 % 256 → v1 ≡ x .value / 2 ^ 8 % 256 → v2 ≡ x .value / 2 ^ 16 % 256 → v3 ≡ x .value / 2 ^ 24 % 256
+        → t0 ≡ set table i v0 → t1 ≡ set t0 (i + 1) v1 → t2 ≡ set t1 (i + 2) v2 → t3 ≡ set t2 (i + 3) v3 → b ≡ start (x .at)
+        → Left (u 8) count count 0 s before c t3 b (i + 4)
+    left-four v0 v1 v2 v3 t0 t1 t2 t3 b e0 e1 e2 e3 s0 s1 s2 s3 eb =
+        let p : ℕ = at .at in
+        let wanted : 4 ≤ count - i = four .wanted in
+        let room : p + 32 ≤ bitCount s = four .room in
+        let l0 = one-of table at i l (omega arith) (four .fine) (omega arith) p 0 (x .value) v0 t0 (omega arith) (omega arith) (four .value) e0 s0 in
+        let l1 = one-of t0 (start (p + 8)) (i + 1) l0 (omega arith) refl (omega arith) p 8 (x .value) v1 t1 refl (omega arith) (four .value) e1 s1 in
+        let l2 = one-of t1 (start (p + 8 + 8)) (i + 1 + 1) l1 (omega arith) refl (omega arith) p 16 (x .value) v2 t2 (omega arith) (omega arith) (four .value) e2 (s2 ∙ ap (λ (j : ℕ). set t1 j v2) (omega arith)) in
+        let l3 = one-of t2 (start (p + 8 + 8 + 8)) (i + 1 + 1 + 1) l2 (omega arith) refl (omega arith) p 24 (x .value) v3 t3 (omega arith) (omega arith) (four .value) e3 (s3 ∙ ap (λ (j : ℕ). set t2 j v3) (omega arith)) in
+        let end : p + 8 + 8 + 8 + 8 ≡ x .at = omega (arith, four .next) in
+        let turns : i + 1 + 1 + 1 + 1 ≡ i + 4 = omega arith in
+        rw (eb, ← end, ← turns) l3
 
 -- an array reads the same whatever record it stands in
 pub array-any : {R R' : Type 0} (k : Codec) (limit d : ℕ) (col : R → ℕ → ℕ) (col' : R' → ℕ → ℕ) (count i : ℕ) (s : List ℕ) (c : Cursor)

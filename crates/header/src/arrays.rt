@@ -2,17 +2,23 @@
 // serves to judge, on a table of one word, and to fill.
 use bits::Choices;
 use bits::Cursor;
+use bits::Piece;
 use bits::begin;
 use bits::bit_count;
 use bits::idle;
 use bits::read_bits;
 use bits::read_bits_if;
 use bits::stop;
+use bits::take;
 use numbers::read_u32_if;
 ghost use mathlib.Core.Path.{_≡_};
+ghost use mathlib.Core.Bool.{false, _&&_};
 ghost use mathlib.Core.List.{List};
-ghost use Prim.Native.Nat.{ℕ, _<_};
+ghost use Prim.Native.Nat.{ℕ, _/_, _%_, _^_, _≤_, _<_};
+ghost use lib.Dec.{leb};
 ghost use lib.ListN.{set};
+ghost use Rattle.bits.specs.Refusals.{pick, clear};
+ghost use Rattle.bits.specs.Steps.{piece};
 ghost use Rattle.bits.specs.Codec.{u, u32};
 ghost use Rattle.bits.specs.Table.{read};
 ghost use Rattle.header.specs.Arrays.{array, Arrayed};
@@ -90,19 +96,52 @@ fn byte(x: u32) -> u8
     x as u8
 }
 
-// count bytes.
+// One of four bytes that were read at once.
+fn byte_of(x: u32, shift: u32) -> u8
+    requires { ⌜ shift ≤ 24 ⌝ }
+    ensures { λ r. ⌜ r ≡ x / 2 ^ shift % 256 ⌝ }
+{
+    ((x >> shift) & 255) as u8
+}
+
+// Four bytes at once, where four are left to read and there.
+fn take_four(s: &[u8], c: Cursor, left: u32) -> Piece
+    ensures { λ r. ⌜ r ≡ pick (leb 4 left && clear c) (piece (now (s .entry)) (c .at) 32) (record { there = false; value = 0; at = c .at }) ⌝ }
+{
+    let at = c.at;
+    if idle(c, 4 <= left) {
+        return Piece {
+            there: false,
+            value: 0,
+            at,
+        };
+    }
+    take(s, at, 32)
+}
+
+// count bytes, four at once as long as there are four.
 pub fn read_bytes(s: &[u8], c: Cursor, count: u32, out: &mut [u8]) -> Cursor
     ensures { λ r. ⌜ Arrayed (u 8) count count 0 (now (s .entry)) c r (now (out .entry)) (now (out .exit)) ⌝ }
 {
     let mut at = c;
     let mut i: u32 = 0;
     while i < count {
-        let f = read_bits(s, at, 8);
-        let b = byte(f.value);
+        let x = take_four(s, at, count - i);
         let k = i as usize;
-        put_byte(out, k, b);
-        at = f.next;
-        i += 1;
+        if x.there {
+            put_byte(out, k, byte_of(x.value, 0));
+            put_byte(out, k + 1, byte_of(x.value, 8));
+            put_byte(out, k + 2, byte_of(x.value, 16));
+            put_byte(out, k + 3, byte_of(x.value, 24));
+            at = begin(x.at);
+            i += 4;
+        } else {
+            let f = read_bits(s, at, 8);
+            let b = byte(f.value);
+            put_byte(out, k, b);
+            at = f.next;
+            i += 1;
+        }
     }
     at
 }
