@@ -6,14 +6,19 @@ use mathlib.Core.Bool.{Bool, true, false, not, _&&_, _||_}
 use lib.Dec.{eqb}
 use lib.Pow.{pow-pos}
 use lib.ListN.{length, getD}
+use native.Mathlib.Omega.{arith}
+use borrow.Author.Tests.{not-true}
 use Rattle.bits.specs.declared.Cursor.{Cursor}
 use Rattle.bits.specs.declared.Field.{Field}
 use Rattle.bits.specs.declared.Wide.{Wide}
-use Rattle.bits.specs.Refusals.{pick}
+use Rattle.bits.specs.declared.window.Ahead.{Ahead}
+use Rattle.bits.specs.Refusals.{pick, start, clear}
+use Rattle.bits.specs.Bits.{ahead as aheadOf}
 use Rattle.bits.specs.Codec.{u, bool, u32, cases, u64, field, wideOf}
 use Rattle.bits.specs.Table.{Table, Out, ends, read, bind, times}
 use Rattle.bits.proofs.Tables.{read-bind}
 use Rattle.bits.proofs.Reading.{field-lt}
+use Rattle.bits.proofs.Codecs.{bool-is, case-known}
 use Rattle.header.specs.declared.Facts.{Facts}
 use Rattle.header.specs.declared.opening.Opening.{Opening}
 use Rattle.header.specs.declared.shape.Quant.{Quant}
@@ -21,12 +26,16 @@ use Rattle.header.specs.declared.shape.Crop.{Crop}
 use Rattle.header.specs.declared.blending.Blending.{Blending}
 use Rattle.header.specs.declared.blending.Decider.{Decider}
 use Rattle.header.specs.declared.closing.Closing.{Closing}
+use Rattle.header.specs.declared.views.View.{View}
+use Rattle.header.specs.declared.views.Seen.{Seen}
+use Rattle.header.specs.Known.{seen, seenChoice}
 use Rattle.types.specs.Types.{flagged}
 use Rattle.header.specs.Opening.{opening, upsamplings}
 use Rattle.header.specs.declared.shape.Passes.{Passes}
 use Rattle.header.specs.Arrays.{array, Arrayed}
 use Rattle.header.specs.Shape.{places, passCounts, downsamples, lastPasses, passes, quant, crop}
-use Rattle.header.proofs.Walks.{array-out, read-then}
+use Rattle.header.proofs.Walks.{array-out, read-then, busy}
+use Rattle.header.proofs.Known.{Held, held-ahead, fieldOf, see-is, see-choice, at-place}
 use Rattle.header.specs.Blending.{modes, alphas, hasSource, blending}
 use Rattle.header.specs.Closing.{durations, nameLengths, closing}
 
@@ -96,6 +105,41 @@ pub blending-law : (s : List ℕ) (c : Cursor) (on extra full : Bool) (d : Decid
     → _≡_ {A = Out Blending} (record { value = record { mode = m .value; «alpha_channel» = a .value; clamp = k .value; source = x .value }; next = x .next }) (read (blending on extra full d) s c)
 unfolding blending read
 blending-law s c on extra full d m a k x has p1 p2 p3 ph p4 = rw (← p1, ← p2, ← p3, ← ph, ← p4)
+
+-- the same out of one look ahead, which holds twelve bits: each field is cut off what the one before left
+module _ (s : List ℕ) (p : ℕ) (ahead : Ahead) (ea : ahead ≡ aheadOf s p) (whole : ahead .whole ≡ true) where
+  abbrev first : View
+  first = record { bits = ahead .bits; at = p }
+
+  pub held-first : Held s first 12
+  held-first = held-ahead s p 12 ahead ea whole (omega arith)
+
+  module _ (m : Seen) (em : m ≡ seenChoice first true 2) where
+    pub held-mode : Held s (m .rest) 8
+    held-mode = see-choice s first true 2 8 (omega arith) held-first m em .1
+
+    module _ (alpha : Bool) (a : Seen) (eα : a ≡ seenChoice (m .rest) alpha 3) where
+      pub held-alpha : Held s (a .rest) 3
+      held-alpha = see-choice s (m .rest) alpha 3 3 (omega arith) held-mode a eα .1
+
+      module _ (clamped : Bool) (k : Seen) (ek : k ≡ seen (a .rest) clamped 1) where
+        pub held-clamp : Held s (k .rest) 2
+        held-clamp = see-is s (a .rest) clamped 1 2 (omega arith) held-alpha k ek .1
+
+        pub blending-seen : (c : Cursor) (on extra full : Bool) (d : Decider) (i : Bool) → i ≡ not (on && clear c) → not i ≡ true → p ≡ c .at → m .value < 5
+            → (two : Bool) → two ≡ (eqb (m .value) 2 || eqb (m .value) 3) → alpha ≡ (extra && two) → clamped ≡ (alpha || eqb (m .value) 4)
+            → (has : Bool) → has ≡ hasSource d (m .value) full → (x : Seen) → x ≡ seen (k .rest) has 2 → (b : Cursor) → b ≡ start (x .rest .at)
+            → _≡_ {A = Out Blending} (record { value = record { mode = m .value; «alpha_channel» = a .value; clamp = k .value; source = x .value }; next = b }) (read (blending on extra full d) s c)
+        blending-seen c on extra full d i ei go ep known two et eα' ec has eh x ex b eb =
+            let stays : i ≡ false = not-true i go in
+            let both = busy on (clear c) (sym ei ∙ stays) in
+            let mode : fieldOf m ≡ field s true (u32 modes) 0 c = see-choice s first true 2 8 (omega arith) held-first m em .0 ∙ rw ep (at-place s (u32 modes) 0 c (both .1)) in
+            rw eb (blending-law s c on extra full d (fieldOf m) (fieldOf a) (fieldOf k) (fieldOf x) has
+            (case-known s on modes 5 0 c i ei stays (fieldOf m) mode refl known)
+            (see-choice s (m .rest) alpha 3 3 (omega arith) held-mode a eα .0 ∙ rw (eα', et))
+            (see-is s (a .rest) clamped 1 2 (omega arith) held-alpha k ek .0 ∙ bool-is s clamped 0 (start (a .rest .at)) ∙ rw (ec, eα', et))
+            eh
+            (see-is s (k .rest) has 2 0 (omega arith) held-clamp x ex .0 ∙ rw (both .0)))
 
 pub closing-law : (s : List ℕ) (c : Cursor) (f : Facts) (o : Opening) (resets : Bool) (duration timecode last reference ct name : Field) (d e : ℕ)
     → duration ≡ field s ((eqb (o .«all_default») 0 && (eqb (o .«frame_type») 0 || eqb (o .«frame_type») 3)) && f .animation) (u32 durations) 0 c

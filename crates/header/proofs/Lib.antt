@@ -1,4 +1,5 @@
 pub mod Walks
+pub mod Known
 pub mod Bundles
 pub mod Canvas
 pub mod Whole

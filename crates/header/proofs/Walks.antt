@@ -307,7 +307,7 @@ idle-by s (suc n) c false ok es eo h = absurd (false≢true (sym es ∙ lt-ltb 0
 pub passed-idle : (s : List ℕ) (count : ℕ) (c : Cursor) (i : Bool) → i ≡ not (ltb 0 count && clear c) → i ≡ true → c ≡ behind s count c
 passed-idle s count c i e h = idle-by s count c (ltb 0 count) (clear c) refl refl (sym e ∙ h)
 
-busy : (some ok : Bool) → not (some && ok) ≡ false → (some ≡ true) × (ok ≡ true)
+pub busy : (some ok : Bool) → not (some && ok) ≡ false → (some ≡ true) × (ok ≡ true)
 busy true true h = (refl, refl)
 busy true false h = absurd (false≢true (sym h))
 busy false ok h = absurd (false≢true (sym h))

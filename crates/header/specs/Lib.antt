@@ -1,6 +1,7 @@
 pub mod Arrays
 pub mod Opening
 pub mod Shape
+pub mod Known
 pub mod Blending
 pub mod Closing
 pub mod Header

@@ -2,11 +2,18 @@
 use crate::Facts;
 use crate::arrays::put;
 use crate::shape::Crop;
+use crate::views::View;
+use crate::views::see;
+use crate::views::see_choice;
 use bits::Choice;
 use bits::Choices;
 use bits::Cursor;
+use bits::begin;
 use bits::both;
 use bits::either;
+use bits::idle;
+use bits::kept;
+use bits::look_ahead;
 use bits::read_bits_if;
 use bits::read_bool_if;
 use numbers::read_enum_if;
@@ -97,8 +104,8 @@ fn has_source(d: Decider, own: u32, full: bool) -> bool
     }
 }
 
-// The bundle, where it is asked for; extra says whether there are extra channels.
-pub fn read_blending_if(
+// The bundle field by field.
+fn read_blending_fields(
     s: &[u8],
     c: Cursor,
     on: bool,
@@ -126,6 +133,52 @@ pub fn read_blending_if(
     }
 }
 
+// The bundle, where it is asked for; extra says whether there are extra channels. It takes twelve bits at most, so that one look ahead
+// holds it; near the input's end, and for a mode that is none, it is read field by field.
+pub fn read_blending_if(
+    s: &[u8],
+    c: Cursor,
+    on: bool,
+    extra: bool,
+    full: bool,
+    d: Decider,
+) -> BlendingRead
+    ensures { λ r. ⌜ r ≡ blendingRead (read (blending on extra full d) (now (s .entry)) c) ⌝ }
+{
+    if !idle(c, on) {
+        let at = c.at;
+        let ahead = look_ahead(s, at);
+        if ahead.whole {
+            let m = see_choice(
+                View {
+                    bits: ahead.bits,
+                    at,
+                },
+                true,
+                2,
+            );
+            if m.value < 5 {
+                let alpha = both(extra, either(m.value == 2, m.value == 3));
+                let a = see_choice(m.rest, alpha, 3);
+                let k = see(a.rest, either(alpha, m.value == 4), 1);
+                let x = see(k.rest, has_source(d, m.value, full), 2);
+                let rest = x.rest;
+                let next = begin(rest.at);
+                return BlendingRead {
+                    value: Blending {
+                        mode: m.value,
+                        alpha_channel: a.value,
+                        clamp: k.value,
+                        source: x.value,
+                    },
+                    next,
+                };
+            }
+        }
+    }
+    read_blending_fields(s, c, on, extra, full, d)
+}
+
 // The bundles of n extra channels, four words each.
 pub fn read_extra_blending(
     s: &[u8],
@@ -138,7 +191,7 @@ pub fn read_extra_blending(
 ) -> Cursor
     ensures { λ r. ⌜ Extras on n full d (now (s .entry)) c r (now (out .entry)) (now (out .exit)) ⌝ }
 {
-    let mut at = c;
+    let mut at = kept(c);
     let mut i: u32 = 0;
     while i < n {
         let b = read_blending_if(s, at, on, true, full, d);
@@ -148,7 +201,7 @@ pub fn read_extra_blending(
         put(out, k + 1, v.alpha_channel);
         put(out, k + 2, v.clamp);
         put(out, k + 3, v.source);
-        at = b.next;
+        at = kept(b.next);
         i += 1;
     }
     at

@@ -23,6 +23,7 @@ use bits::Cursor;
 use bits::begin;
 use bits::both;
 use bits::either;
+use bits::kept;
 use filter::RestorationFilter;
 use filter::read_restoration_filter_if;
 use numbers::read_extensions_if;
@@ -129,7 +130,7 @@ pub fn read_back(s: &[u8], c: Cursor, f: Facts, o: Opening, crop: Crop) -> BackR
         Decider { own: true, mode: 0 },
     );
     let blending = b.value;
-    let blending_at = b.next;
+    let blending_at = kept(b.next);
     let mut word = [0u32; 1];
     let mode = blending.mode;
     let x = read_extra_blending(

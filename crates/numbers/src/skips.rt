@@ -57,14 +57,14 @@ pub fn skip_bits_if(s: &[u8], c: Cursor, on: bool, n: Sum) -> Cursor
 pub fn read_extensions_if(s: &[u8], c: Cursor, on: bool) -> Cursor
     ensures { λ r. ⌜ r ≡ read (extensions on) (now (s .entry)) c .next ⌝ }
 {
-    let m = read_u64_if(s, c, on, 0);
+    let m = read_u64_if(s, kept(c), on, 0);
     let mut mask = m.value;
-    let mut at = m.next;
+    let mut at = kept(m.next);
     let mut sum = Sum { high: 0, low: 0 };
     while mask != 0 {
         let n = read_u64_if(s, at, mask % 2 == 1, 0);
         sum = add_bits(sum, n.value);
-        at = n.next;
+        at = kept(n.next);
         mask = mask / 2;
     }
     skip_bits_if(s, at, on, sum)

@@ -1,16 +1,21 @@
--- One call a row.
-use borrow.Author.Needs.{needs}
+-- Out of one look ahead, or field by field.
+use mathlib.Core.Path.{refl, ap}
+use native.Mathlib.Omega.{arith}
 use Rattle.header.specs.Blending.{blendingRead}
-use mathlib.Core.Path.{refl, sym, _∙_, ap}
-use Rattle.header.proofs.Bundles.{blending-law}
+use Rattle.header.proofs.Known.{held-place}
+use Rattle.header.proofs.Bundles.{held-first, held-mode, held-alpha, held-clamp, blending-seen}
+use borrow.Author.Needs.{needs}
 use Rattle.header.proofs.blending.read_blending_if.Statement.{statement}
 use Rattle.header.proofs.blending.read_blending_if.Tie as tie
 
-mode-choices-requires : tie.Need-mode-choices-requires
-mode-choices-requires c κs = search needs
+idle-requires : tie.Need-idle-requires
+idle-requires c κs = search needs
 
-read-enum-if-requires : tie.Need-read-enum-if-requires
-read-enum-if-requires c κs = search needs
+look-ahead-requires : tie.Need-look-ahead-requires
+look-ahead-requires c κs = search needs
+
+see-choice-requires : tie.Need-see-choice-requires
+see-choice-requires c κs = (omega arith, held-place (c .before .before .before .before .before .args .s .now) _ 12 (held-first (c .before .before .before .before .before .args .s .now) (c .before .before .before .before .before .args .c .at) (c .before .look-ahead .result) (c .before .look-ahead .ensures) (c .if2 .taken)))
 
 either-requires : tie.Need-either-requires
 either-requires c κs = search needs
@@ -18,50 +23,53 @@ either-requires c κs = search needs
 both-requires : tie.Need-both-requires
 both-requires c κs = search needs
 
-alpha-choices-requires : tie.Need-alpha-choices-requires
-alpha-choices-requires c κs = search needs
-
-read-u32-if-requires : tie.Need-read-u32-if-requires
-read-u32-if-requires c κs = search needs
+see-choice-requires-2 : tie.Need-see-choice-requires-2
+see-choice-requires-2 c κs = (omega arith, held-place (c .before .before .before .before .before .before .before .before .before .before .before .before .args .s .now) _ 8 (held-mode (c .before .before .before .before .before .before .before .before .before .before .before .before .args .s .now) (c .before .before .before .before .before .before .before .before .before .before .before .before .args .c .at) (c .before .before .before .before .before .before .before .before .look-ahead .result) (c .before .before .before .before .before .before .before .before .look-ahead .ensures) (c .before .before .before .before .before .before .before .if2 .taken) (c .before .before .before .before .before .before .see-choice .result) (c .before .before .before .before .before .before .see-choice .ensures)))
 
 either-requires-2 : tie.Need-either-requires-2
 either-requires-2 c κs = search needs
 
-read-bool-if-requires : tie.Need-read-bool-if-requires
-read-bool-if-requires c κs = search needs
+see-requires : tie.Need-see-requires
+see-requires c κs = (omega arith, omega (arith, held-place (c .before .before .before .before .before .before .before .before .before .before .before .before .before .before .before .args .s .now) _ 3 (held-alpha (c .before .before .before .before .before .before .before .before .before .before .before .before .before .before .before .args .s .now) (c .before .before .before .before .before .before .before .before .before .before .before .before .before .before .before .args .c .at) (c .before .before .before .before .before .before .before .before .before .before .before .look-ahead .result) (c .before .before .before .before .before .before .before .before .before .before .before .look-ahead .ensures) (c .before .before .before .before .before .before .before .before .before .before .if2 .taken) (c .before .before .before .before .before .before .before .before .before .see-choice .result) (c .before .before .before .before .before .before .before .before .before .see-choice .ensures) (c .before .before .before .both .result) (c .before .before .see-choice2 .result) (c .before .before .see-choice2 .ensures))))
 
 has-source-requires : tie.Need-has-source-requires
 has-source-requires c κs = search needs
 
-both-requires-2 : tie.Need-both-requires-2
-both-requires-2 c κs = search needs
+see-requires-2 : tie.Need-see-requires-2
+see-requires-2 c κs = (omega arith, omega (arith, held-place (c .before .before .before .before .before .before .before .before .before .before .before .before .before .before .before .before .before .args .s .now) _ 2 (held-clamp (c .before .before .before .before .before .before .before .before .before .before .before .before .before .before .before .before .before .args .s .now) (c .before .before .before .before .before .before .before .before .before .before .before .before .before .before .before .before .before .args .c .at) (c .before .before .before .before .before .before .before .before .before .before .before .before .before .look-ahead .result) (c .before .before .before .before .before .before .before .before .before .before .before .before .before .look-ahead .ensures) (c .before .before .before .before .before .before .before .before .before .before .before .before .if2 .taken) (c .before .before .before .before .before .before .before .before .before .before .before .see-choice .result) (c .before .before .before .before .before .before .before .before .before .before .before .see-choice .ensures) (c .before .before .before .before .before .both .result) (c .before .before .before .before .see-choice2 .result) (c .before .before .before .before .see-choice2 .ensures) (c .before .before .either2 .result) (c .before .see .result) (c .before .see .ensures))))
 
-read-bits-if-requires : tie.Need-read-bits-if-requires
-read-bits-if-requires c κs = search needs
+begin-requires : tie.Need-begin-requires
+begin-requires c κs = search needs
 
 returns : tie.Need-returns
 returns c =
     ap blendingRead
-    (blending-law (c .before .before .before .before .before .before .before .before .before .before .before .before .before .before .before .before .args .s .now) (c .before .before .before .before .before .before .before .before .before .before .before .before .before .before .before .before .args .c) (c .before .before .before .before .before .before .before .before .before .before .before .before .before .before .before .before .args .on) (c .before .before .before .before .before .before .before .before .before .before .before .before .before .before .before .before .args .extra) (c .before .before .before .before .before .before .before .before .before .before .before .before .before .before .before .before .args .full) (c .before .before .before .before .before .before .before .before .before .before .before .before .before .before .before .before .args .d) _ _ _ _ _
-    (c .before .before .before .before .before .before .before .before .before .before .before .before .before .read-enum-if .ensures ∙ rw (c .before .before .before .before .before .before .before .before .before .before .before .before .before .before .mode-choices .ensures))
-    (c .before .before .before .before .before .before .before .read-u32-if .ensures ∙ rw (c .before .before .before .before .before .before .before .before .before .both .ensures, c .before .before .before .before .before .before .before .before .before .before .either .ensures, c .before .before .before .before .before .before .before .before .alpha-choices .ensures))
-    (c .before .before .before .before .read-bool-if .ensures ∙ rw (c .before .before .before .before .before .either2 .ensures, c .before .before .before .before .before .before .before .before .before .both .ensures, c .before .before .before .before .before .before .before .before .before .before .either .ensures))
-    (c .before .before .before .has-source .ensures)
-    (c .before .read-bits-if .ensures ∙ rw (c .before .before .both2 .ensures)))
+    (blending-seen (c .before .before .before .before .before .before .before .before .before .before .before .before .before .before .before .before .before .before .before .before .args .s .now) (c .before .before .before .before .before .before .before .before .before .before .before .before .before .before .before .before .before .before .before .before .args .c .at) (c .before .before .before .before .before .before .before .before .before .before .before .before .before .before .before .before .look-ahead .result) (c .before .before .before .before .before .before .before .before .before .before .before .before .before .before .before .before .look-ahead .ensures) (c .before .before .before .before .before .before .before .before .before .before .before .before .before .before .before .if2 .taken) (c .before .before .before .before .before .before .before .before .before .before .before .before .before .before .see-choice .result) (c .before .before .before .before .before .before .before .before .before .before .before .before .before .before .see-choice .ensures) (c .before .before .before .before .before .before .before .before .both .result) (c .before .before .before .before .before .before .before .see-choice2 .result) (c .before .before .before .before .before .before .before .see-choice2 .ensures) (c .before .before .before .before .before .either2 .result) (c .before .before .before .before .see .result) (c .before .before .before .before .see .ensures)
+    (c .before .before .before .before .before .before .before .before .before .before .before .before .before .before .before .before .before .before .before .before .args .c) (c .before .before .before .before .before .before .before .before .before .before .before .before .before .before .before .before .before .before .before .before .args .on) (c .before .before .before .before .before .before .before .before .before .before .before .before .before .before .before .before .before .before .before .before .args .extra) (c .before .before .before .before .before .before .before .before .before .before .before .before .before .before .before .before .before .before .before .before .args .full) (c .before .before .before .before .before .before .before .before .before .before .before .before .before .before .before .before .before .before .before .before .args .d) (c .before .before .before .before .before .before .before .before .before .before .before .before .before .before .before .before .before .before .idle .result) (c .before .before .before .before .before .before .before .before .before .before .before .before .before .before .before .before .before .before .idle .ensures) (c .before .before .before .before .before .before .before .before .before .before .before .before .before .before .before .before .before .if1 .taken) refl (c .before .before .before .before .before .before .before .before .before .before .before .before .if3 .taken)
+    (c .before .before .before .before .before .before .before .before .before .either .result) (c .before .before .before .before .before .before .before .before .before .either .ensures) (c .before .before .before .before .before .before .before .before .both .ensures) (c .before .before .before .before .before .either2 .ensures)
+    (c .before .before .before .has-source .result) (c .before .before .before .has-source .ensures) (c .before .before .see2 .result) (c .before .before .see2 .ensures) (c .begin .result) (c .begin .ensures))
+
+read-blending-fields-requires : tie.Need-read-blending-fields-requires
+read-blending-fields-requires c κs = search needs
+
+returns-2 : tie.Need-returns-2
+returns-2 c = search needs
 
 pub read-blending-if-spec : {M : Type 1} → statement M
 read-blending-if-spec =
     tie.close
     (tie.spec
-    mode-choices-requires
-    read-enum-if-requires
+    idle-requires
+    look-ahead-requires
+    see-choice-requires
     either-requires
     both-requires
-    alpha-choices-requires
-    read-u32-if-requires
+    see-choice-requires-2
     either-requires-2
-    read-bool-if-requires
+    see-requires
     has-source-requires
-    both-requires-2
-    read-bits-if-requires
-    returns)
+    see-requires-2
+    begin-requires
+    returns
+    read-blending-fields-requires
+    returns-2)

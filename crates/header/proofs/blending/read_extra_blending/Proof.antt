@@ -1,10 +1,9 @@
 -- `read_extra_blending`: what is left of the walk is what the definition has left to read.
-use Rattle.header.proofs.blending.read_extra_blending.Statement.{statement}
-use borrow.Author.Needs.{needs}
 use Prim.Native.Nat.{_-_}
-use mathlib.Core.Path.{refl}
 use native.Mathlib.Omega.{arith}
 use Rattle.header.proofs.Walks.{LeftBlending, blending-none, blending-more, blending-all}
+use borrow.Author.Needs.{needs}
+use Rattle.header.proofs.blending.read_extra_blending.Statement.{statement}
 use Rattle.header.proofs.blending.read_extra_blending.Tie as tie
 
 abbrev Inv-loop : tie.InvT-loop
@@ -13,8 +12,11 @@ Inv-loop s on n full d out₀ at₀ i₀ out at i = LeftBlending on n full d s o
 abbrev μ-loop : tie.MeasureT-loop
 μ-loop s on n full d out₀ at₀ i₀ out at i = n - i
 
+kept-requires : tie.Need-kept-requires Inv-loop μ-loop
+kept-requires c κs = search needs
+
 loop-holds : tie.Need-loop-holds Inv-loop μ-loop
-loop-holds c = blending-none (c .before .before .args .on) (c .before .before .args .n) (c .before .before .args .full) (c .before .before .args .d) (c .before .before .args .s .now) (c .before .before .args .out .now) (c .before .before .args .c)
+loop-holds c = blending-none (c .before .before .before .args .on) (c .before .before .before .args .n) (c .before .before .before .args .full) (c .before .before .before .args .d) (c .before .before .before .args .s .now) (c .before .before .before .args .out .now) (c .kept .result)
 
 read-blending-if-requires : tie.Need-read-blending-if-requires Inv-loop μ-loop
 read-blending-if-requires c κs = search needs
@@ -46,20 +48,23 @@ add-put-3 c = search needs
 put-requires-4 : tie.Need-put-requires-4 Inv-loop μ-loop
 put-requires-4 c κs = search needs
 
+kept-requires-2 : tie.Need-kept-requires-2 Inv-loop μ-loop
+kept-requires-2 c κs = search needs
+
 add-i : tie.Need-add-i Inv-loop μ-loop
-add-i c = search needs
+add-i c = omega (arith, c .before .before .before .before .before .before .before .before .before .before .before .before .before .before .before .before .before .before .before .loop-test .taken, c .before .before .before .before .before .before .before .before .before .before .before .before .before .before .before .before .before .before .before .before .before .before .before .before .fits)
 
 loop-less : tie.Need-loop-less Inv-loop μ-loop
 loop-less c = search needs
 
 loop-again : tie.Need-loop-again Inv-loop μ-loop
-loop-again c = blending-more (c .before .before .before .before .before .before .before .before .before .before .before .before .before .before .before .before .before .before .before .before .before .before .before .args .on) (c .before .before .before .before .before .before .before .before .before .before .before .before .before .before .before .before .before .before .before .before .before .before .before .args .n) (c .before .before .before .before .before .before .before .before .before .before .before .before .before .before .before .before .before .before .before .before .before .before .before .args .full) (c .before .before .before .before .before .before .before .before .before .before .before .before .before .before .before .before .before .before .before .before .before .before .before .args .d) (c .before .before .before .before .before .before .before .before .before .before .before .before .before .before .before .before .before .before .before .before .before .before .before .args .s .now) (c .before .before .before .before .before .before .before .before .before .before .before .before .before .before .before .before .before .before .before .before .before .before .before .args .out .now) (c .before .before .before .before .before .before .before .before .before .before .before .before .before .before .before .before .before .before .before .before .before .before .before .args .c) (c .before .before .before .before .before .before .before .before .before .before .before .before .before .before .before .before .before .before .before .before .loop .out) (c .before .before .before .before .before .before .before .before .before .before .before .before .before .before .before .before .before .before .before .before .loop .at) (c .before .before .before .before .before .before .before .before .before .before .before .before .before .before .before .before .before .before .before .before .loop .i) (c .before .before .before .before .before .before .before .before .before .before .before .before .before .before .before .before .before .before .before .before .loop .inv) (c .before .before .before .before .before .before .before .before .before .before .before .before .before .before .before .before .before .before .before .loop-test .taken) _ _ _ _ _ (c .before .before .before .before .before .before .before .before .before .before .before .before .before .before .before .before .before .before .read-blending-if .ensures) (c .before .before .before .before .before .before .before .before .before .before .before .before .before .before .before .put .ensures) (c .before .before .before .before .before .before .before .before .before .before .before .put2 .ensures) (c .before .before .before .before .before .before .before .put3 .ensures) (c .before .before .before .put4 .ensures)
+loop-again c = rw (c .kept2 .ensures) (blending-more (c .before .before .before .before .before .before .before .before .before .before .before .before .before .before .before .before .before .before .before .before .before .before .before .before .args .on) (c .before .before .before .before .before .before .before .before .before .before .before .before .before .before .before .before .before .before .before .before .before .before .before .before .args .n) (c .before .before .before .before .before .before .before .before .before .before .before .before .before .before .before .before .before .before .before .before .before .before .before .before .args .full) (c .before .before .before .before .before .before .before .before .before .before .before .before .before .before .before .before .before .before .before .before .before .before .before .before .args .d) (c .before .before .before .before .before .before .before .before .before .before .before .before .before .before .before .before .before .before .before .before .before .before .before .before .args .s .now) (c .before .before .before .before .before .before .before .before .before .before .before .before .before .before .before .before .before .before .before .before .before .before .before .before .args .out .now) (c .before .before .before .before .before .before .before .before .before .before .before .before .before .before .before .before .before .before .before .before .before .kept .result) (c .before .before .before .before .before .before .before .before .before .before .before .before .before .before .before .before .before .before .before .before .loop .out) (c .before .before .before .before .before .before .before .before .before .before .before .before .before .before .before .before .before .before .before .before .loop .at) (c .before .before .before .before .before .before .before .before .before .before .before .before .before .before .before .before .before .before .before .before .loop .i) (c .before .before .before .before .before .before .before .before .before .before .before .before .before .before .before .before .before .before .before .before .loop .inv) (c .before .before .before .before .before .before .before .before .before .before .before .before .before .before .before .before .before .before .before .loop-test .taken) _ _ _ _ _ (c .before .before .before .before .before .before .before .before .before .before .before .before .before .before .before .before .before .before .read-blending-if .ensures) (c .before .before .before .before .before .before .before .before .before .before .before .before .before .before .before .put .ensures) (c .before .before .before .before .before .before .before .before .before .before .before .put2 .ensures) (c .before .before .before .before .before .before .before .put3 .ensures) (c .before .before .before .put4 .ensures))
 
 same-length : tie.Need-same-length Inv-loop μ-loop
 same-length c = c .before .loop .inv .size
 
 returns : tie.Need-returns Inv-loop μ-loop
-returns c = blending-all (c .before .before .before .before .args .on) (c .before .before .before .before .args .n) (c .before .before .before .before .args .full) (c .before .before .before .before .args .d) (c .before .before .before .before .args .s .now) (c .before .before .before .before .args .out .now) (c .before .before .before .before .args .c) (c .before .loop .out) (c .before .loop .at) (c .before .loop .i) (c .before .loop .inv) (c .loop-test .left)
+returns c = rw (c .before .before .kept .ensures) at (blending-all (c .before .before .before .before .before .args .on) (c .before .before .before .before .before .args .n) (c .before .before .before .before .before .args .full) (c .before .before .before .before .before .args .d) (c .before .before .before .before .before .args .s .now) (c .before .before .before .before .before .args .out .now) (c .before .before .kept .result) (c .before .loop .out) (c .before .loop .at) (c .before .loop .i) (c .before .loop .inv) (c .loop-test .left))
 
 pub read-extra-blending-spec : {M : Type 1} → statement M
 read-extra-blending-spec =
@@ -67,6 +72,7 @@ read-extra-blending-spec =
     (tie.spec
     Inv-loop
     μ-loop
+    kept-requires
     loop-holds
     read-blending-if-requires
     cast-k
@@ -78,6 +84,7 @@ read-extra-blending-spec =
     put-requires-3
     add-put-3
     put-requires-4
+    kept-requires-2
     add-i
     loop-less
     loop-again

@@ -14,6 +14,9 @@ is-shown-requires c κs = search needs
 read-blending-if-requires : tie.Need-read-blending-if-requires
 read-blending-if-requires c κs = search needs
 
+kept-requires : tie.Need-kept-requires
+kept-requires c κs = search needs
+
 slice-aggregate-read-extra-blending : tie.Need-slice-aggregate-read-extra-blending
 slice-aggregate-read-extra-blending c = search needs
 
@@ -37,13 +40,14 @@ read-extensions-if-requires c κs = search needs
 
 returns : tie.Need-returns
 returns c =
-    back-law (c .before .before .before .before .before .before .before .before .before .before .before .before .before .before .before .before .before .before .before .before .args .s .now) (c .before .before .before .before .before .before .before .before .before .before .before .before .before .before .before .before .before .before .before .before .args .c) (c .before .before .before .before .before .before .before .before .before .before .before .before .before .before .before .before .before .before .before .before .args .f) (c .before .before .before .before .before .before .before .before .before .before .before .before .before .before .before .before .before .before .before .before .args .o) (c .before .before .before .before .before .before .before .before .before .before .before .before .before .before .before .before .before .before .before .before .args .crop) _ _ _ _ _ _ _ _
+    rw (c .before .before .before .before .before .before .before .before .before .before .before .before .before .kept .ensures)
+    (back-law (c .before .before .before .before .before .before .before .before .before .before .before .before .before .before .before .before .before .before .before .before .args .s .now) (c .before .before .before .before .before .before .before .before .before .before .before .before .before .before .before .before .before .before .before .before .args .c) (c .before .before .before .before .before .before .before .before .before .before .before .before .before .before .before .before .before .before .before .before .args .f) (c .before .before .before .before .before .before .before .before .before .before .before .before .before .before .before .before .before .before .before .before .args .o) (c .before .before .before .before .before .before .before .before .before .before .before .before .before .before .before .before .before .before .before .before .args .crop) (c .before .before .before .before .before .before .before .before .before .before .before .before .before .before .before .read-blending-if .result) _ _ _ _ _ _ _
     (c .before .before .before .before .before .before .before .before .before .before .before .before .before .before .before .read-blending-if .ensures ∙ rw (c .before .before .before .before .before .before .before .before .before .before .before .before .before .before .before .before .before .is-shown .ensures, c .before .before .before .before .before .before .before .before .before .before .before .before .before .before .before .before .before .before .covers-image .ensures))
-    (rw (c .before .before .before .before .before .before .before .before .before .before .before .before .before .before .before .before .before .is-shown .ensures, c .before .before .before .before .before .before .before .before .before .before .before .before .before .before .before .before .before .before .covers-image .ensures) at (c .before .before .before .before .before .before .before .before .before .before .before .read-extra-blending .ensures))
+    (rw (c .before .before .before .before .before .before .before .before .before .before .before .before .before .before .before .before .before .is-shown .ensures, c .before .before .before .before .before .before .before .before .before .before .before .before .before .before .before .before .before .before .covers-image .ensures, c .before .before .before .before .before .before .before .before .before .before .before .before .before .kept .ensures) at (c .before .before .before .before .before .before .before .before .before .before .before .read-extra-blending .ensures))
     (c .before .before .before .before .before .before .before .before .read-closing .ensures ∙ rw (c .before .before .before .before .before .before .before .before .before .both .ensures, c .before .before .before .before .before .before .before .before .before .before .before .before .before .before .before .before .before .before .covers-image .ensures))
     (c .before .before .before .before .before .pass-bytes .ensures)
     (c .before .before .read-restoration-filter-if .ensures)
-    (c .read-extensions-if .ensures)
+    (c .read-extensions-if .ensures))
 
 pub read-back-spec : {M : Type 1} → statement M
 read-back-spec =
@@ -52,6 +56,7 @@ read-back-spec =
     covers-image-requires
     is-shown-requires
     read-blending-if-requires
+    kept-requires
     slice-aggregate-read-extra-blending
     read-extra-blending-requires
     both-requires
