@@ -84,14 +84,15 @@ module _ (s : List ℕ) where
   see-by w false n m h k = (refl, record { count = k .count; enough = omega (arith, k .enough); bits = k .bits; room = k .room })
   see-by w true n m h k =
       let enough : n ≤ k .count = omega (arith, k .enough) in
-      let is : w .bits % 2 ^ n ≡ bitsAt s (w .at) n = rw (k .bits) (low-of s (w .at) (k .count) n enough) in
-      (rw (is, le-leb n 32 h, le-leb (w .at + n) (bitCount s) (omega (arith, k .room, enough))) refl,
-      record {
-        count = k .count - n;
-        enough = omega (arith, k .enough);
-        bits = rw (k .bits) (high-of s (w .at) (k .count) n enough);
-        room = omega (arith, k .room, enough);
-      })
+      let is : w .bits % 2 ^ n ≡ bitsAt s (w .at) n = rw (k .bits) (low-of s (w .at) (k .count) n enough) in (
+        rw (is, le-leb n 32 h, le-leb (w .at + n) (bitCount s) (omega (arith, k .room, enough))) refl,
+        record {
+          count = k .count - n;
+          enough = omega (arith, k .enough);
+          bits = rw (k .bits) (high-of s (w .at) (k .count) n enough);
+          room = omega (arith, k .room, enough);
+        },
+      )
 
   pub see-is : (w : View) (on : Bool) (n m : ℕ) → n ≤ 32 → Held s w (n + m) → (r : Seen) → r ≡ seen w on n → (fieldOf r ≡ field s on (u n) 0 (start (w .at))) × Held s (r .rest) m
   see-is w on n m h k r e = rw e (see-by w on n m h k)
@@ -138,9 +139,10 @@ module _ (s : List ℕ) (w : View) (n m : ℕ) (low : n ≤ 8) (held : Held s w 
       let ech = ap (λ (b : Bool). pick b (plus 3 n) (val k)) (sym et) ∙ small-chosen n k k< in
       let none : w .at + 2 ≡ w .at + 2 + 0 = omega arith in
       let below : k + 0 < 2 ^ 32 = omega (arith, k<) in
-      let h = held-behind in
-      (ap (λ (q : ℕ). record { value = k + 0; next = start q }) none ∙ choice-read (val k) ech (omega arith) (k + 0) (sym (mod-eq-of-lt below)),
-      record { count = h .count; enough = omega (arith, h .enough); bits = h .bits; room = h .room })
+      let h = held-behind in (
+        ap (λ (q : ℕ). record { value = k + 0; next = start q }) none ∙ choice-read (val k) ech (omega arith) (k + 0) (sym (mod-eq-of-lt below)),
+        record { count = h .count; enough = omega (arith, h .enough); bits = h .bits; room = h .room },
+      )
   choice-by true et =
       let k = w .bits % 2 ^ 2 in
       let k3 : k ≡ 3 = eqb-true k 3 et in
@@ -150,9 +152,10 @@ module _ (s : List ℕ) (w : View) (n m : ℕ) (low : n ≤ 8) (held : Held s w 
       let x = behind .bits % 2 ^ n in
       let is : x ≡ bitsAt s (w .at + 2) n = rw (h .bits) (low-of s (w .at + 2) (h .count) n (omega (arith, h .enough))) in
       let small : x < 2 ^ 8 = rw is (lt-of-lt-of-le (bits-lt s (w .at + 2) n) (pow-mono {i = n} {j = 8} low)) in
-      let below : 3 + x < 2 ^ 32 = omega (arith, small) in
-      (choice-read (plus 3 n) ech (omega arith) (k + x) (ap (λ (y : ℕ). y + x) k3 ∙ sym (mod-eq-of-lt below) ∙ ap (λ (y : ℕ). (3 + y) % 2 ^ 32) is),
-      see-by s behind true n m (omega (arith, low)) h .1)
+      let below : 3 + x < 2 ^ 32 = omega (arith, small) in (
+        choice-read (plus 3 n) ech (omega arith) (k + x) (ap (λ (y : ℕ). y + x) k3 ∙ sym (mod-eq-of-lt below) ∙ ap (λ (y : ℕ). (3 + y) % 2 ^ 32) is),
+        see-by s behind true n m (omega (arith, low)) h .1,
+      )
 
 -- the U32, where it is asked for
 choice-seen : (s : List ℕ) (w : View) (on : Bool) (n m : ℕ) → n ≤ 8 → Held s w (2 + (n + m))
