@@ -6,8 +6,8 @@ use mathlib.Core.Bool.{Bool, true, false, not, _&&_, _||_}
 use mathlib.Core.List.{List, [], _∷_}
 use lib.Dec.{leb, ltb, eqb}
 use lib.IntN.{ℤ}
-use lib.ListN.{length}
-use lib.Seq.{sets}
+use lib.ListN.{length, take}
+use lib.Seq.{sets, length-sets}
 use borrow.Author.Tests.{lt-ltb, le-ltb, eq-eqb, ne-eqb}
 use Rattle.bits.specs.declared.Refusal.{Refusal}
 use Rattle.bits.specs.declared.Cursor.{Cursor}
@@ -37,11 +37,11 @@ use Rattle.types.specs.Types.{frameType, encoding, blendMode}
 use Rattle.header.specs.Arrays.{array, Arrayed}
 use Rattle.header.specs.Opening.{upsamplings}
 use Rattle.header.specs.Blending.{coversImage, resets, byColour, words, extras, Extras}
-use Rattle.header.specs.Header.{Header, Begun, Ended, sentUpsampling, shown, front, back, header, Fronted, Backed}
+use Rattle.header.specs.Header.{Header, Begun, Ended, sentUpsampling, shown, front, back, header, upsamplingFrom, blendingFrom, Fronted, Backed}
 use Rattle.header.specs.Questions.{colorChannels, blendingInfo, frameHeader, zeroHeader}
-use Rattle.header.specs.Entry.{badFacts, noRoom, judged, stands, refusalOf, refusedHeader, answered, kept, Filled, Headed}
+use Rattle.header.specs.Entry.{badFacts, noRoom, judged, stands, refusalOf, refusedHeader, answered, kept, Kept, Given, Filled, Headed}
 use Rattle.header.specs.Defaults.{Defaulted}
-use Rattle.header.proofs.Walks.{read-then}
+use Rattle.header.proofs.Walks.{read-then, times-length, words-length, in-front}
 use Rattle.header.proofs.AllDefault.{header-off}
 
 -- 2, 1, 3
@@ -69,7 +69,7 @@ pub facts-by : (f : Facts) (a b c d : Bool) → a ≡ (eqb (f .width) 0 || ltb 1
 facts-by f a b c d ea eb ec ed = ed ∙ rw (ec, ea, eb)
 
 -- the two parts are the header
-pub header-law : (f : Facts) (s : List ℕ) (a : FrontRead) (b : BackRead) → Fronted f s a → Backed f (a .value .opening) (a .value .crop) s (a .next) b
+pub header-law : (f : Facts) (s : List ℕ) (a : FrontRead) (b : BackRead) (w w' x x' : List ℕ) → Fronted f s a w w' → Backed f (a .value .opening) (a .value .crop) s (a .next) b x x'
     → stands f s ≡ record {
       value = record {
         front = a .value;
@@ -81,7 +81,7 @@ pub header-law : (f : Facts) (s : List ℕ) (a : FrontRead) (b : BackRead) → F
       next = b .next;
     }
 unfolding header read
-header-law f s a b fa fb =
+header-law f s a b w w' x x' fa fb =
     let ups = read (array (u32 upsamplings) (sentUpsampling f (a .value .opening)) (f .extra) 1 (λ (x : List ℕ) (i : ℕ). 0)) s (a .«upsampling_at») .value in
     let first : _≡_ {A = Out Begun} (record { value = record { front = a .value; upsampling = ups }; next = a .next }) (read (front f) s (start 0)) =
     sym (λ i. record { value = record { front = fa .value i; upsampling = fa .upsampling i }; next = fa .next i }) in
@@ -131,43 +131,68 @@ module _ (f : Facts) (s name upsampling blending : List ℕ) (before : Refusal) 
         blended = d .blended ∙ rw (yes, is, ok);
       }
 
-  module _ (go : before .number ≡ 0) (a : FrontRead) (b : BackRead) (fa : Fronted f s a) (fb : Backed f (a .value .opening) (a .value .crop) s (a .next) b) where
-    yes : eqb (judged (length s) f (length name) (length upsampling) (length blending) .number) 0 ≡ true
-    yes = rw (← eb) (eq-eqb (before .number) 0 go)
+  module _ (go : before .number ≡ 0) (a : FrontRead) (b : BackRead) (w w' x x' : List ℕ) (fa : Fronted f s a w w')
+      (fb : Backed f (a .value .opening) (a .value .crop) s (a .next) b x x')
+    where
+      yes : eqb (judged (length s) f (length name) (length upsampling) (length blending) .number) 0 ≡ true
+      yes = rw (← eb) (eq-eqb (before .number) 0 go)
 
-    is : stands f s .next ≡ b .next
-    is = ap (λ (o : Out Header). o .next) (header-law f s a b fa fb)
+      is : stands f s .next ≡ b .next
+      is = ap (λ (o : Out Header). o .next) (header-law f s a b w w' x x' fa fb)
 
-    -- refused while it was read
-    pub refused-later : (b .next .fault .number ≡ 0 → ⊥) → (r : HeaderAnswer) → r ≡ refusedHeader (b .next .fault) → Headed f s r name name upsampling upsampling blending blending
-    unfolding answered
-    refused-later h r er =
-        let no : eqb (b .next .fault .number) 0 ≡ false = ne-eqb (b .next .fault .number) 0 h in
-        record { answer = er ∙ rw (yes, is, no); named = rw (yes, is, no); upsampled = rw (yes, is, no); blended = rw (yes, is, no) }
+      -- refused while it was read
+      pub refused-later : (b .next .fault .number ≡ 0 → ⊥) → (r : HeaderAnswer) → r ≡ refusedHeader (b .next .fault) → Headed f s r name name upsampling upsampling blending blending
+      unfolding answered
+      refused-later h r er =
+          let no : eqb (b .next .fault .number) 0 ≡ false = ne-eqb (b .next .fault .number) 0 h in
+          record { answer = er ∙ rw (yes, is, no); named = rw (yes, is, no); upsampled = rw (yes, is, no); blended = rw (yes, is, no) }
 
-    -- accepted
-    pub accepted-all : b .next .fault .number ≡ 0 → (r : HeaderAnswer) (name' upsampling' blending' : List ℕ) → Filled f s a b r name name' upsampling upsampling' blending blending'
-        → Headed f s r name name' upsampling upsampling' blending blending'
-    unfolding answered
-    accepted-all h r name' upsampling' blending' fl =
-        let ok : eqb (b .next .fault .number) 0 ≡ true = eq-eqb (b .next .fault .number) 0 h in
-        let all = header-law f s a b fa fb in
-        record {
-          answer = fl .answer ∙ rw (yes, all, ok);
-          named = fl .named ∙ rw (yes, all, ok);
-          upsampled = fl .upsampled ∙ rw (yes, all, ok);
-          blended = fl .blended ∙ rw (yes, all, ok);
-        }
+      -- accepted
+      pub accepted-all : b .next .fault .number ≡ 0 → (r : HeaderAnswer) (name' upsampling' blending' : List ℕ) → Filled f s a b r name name' upsampling upsampling' blending blending'
+          → Headed f s r name name' upsampling upsampling' blending blending'
+      unfolding answered
+      accepted-all h r name' upsampling' blending' fl =
+          let ok : eqb (b .next .fault .number) 0 ≡ true = eq-eqb (b .next .fault .number) 0 h in
+          let all = header-law f s a b w w' x x' fa fb in
+          record {
+            answer = fl .answer ∙ rw (yes, all, ok);
+            named = fl .named ∙ rw (yes, all, ok);
+            upsampled = fl .channels .upsampled ∙ rw (yes, all, ok);
+            blended = fl .channels .blended ∙ rw (yes, all, ok);
+          }
 
--- the record and the arrays of what was read
-pub filled-by : (f : Facts) (s : List ℕ) (a : FrontRead) (b : BackRead) (hd : FrameHeader) (acc : Refusal) (name name' upsampling upsampling' blending blending' : List ℕ) (w e n : Cursor)
-    → hd ≡ frameHeader f (a .value) (b .value) → acc ≡ none
-    → Arrayed (u32 upsamplings) (sentUpsampling f (a .value .opening)) (f .extra) 1 s (a .«upsampling_at») w upsampling upsampling'
-    → Extras (shown (a .value .opening)) (f .extra) (coversImage f (a .value .crop)) (byColour (b .value .blending .mode)) s (b .«blending_at») e blending blending'
-    → Arrayed (u 8) (b .value .closing .«name_length») (b .value .closing .«name_length») 0 s (b .«name_at») n name name'
-    → Filled f s a b (record { header = hd; end = b .next .at; refusal = acc }) name name' upsampling upsampling' blending blending'
-filled-by f s a b hd acc name name' upsampling upsampling' blending blending' w e n eh ea wu we wn =
-    record { answer = rw (eh, ea); named = wn .words; upsampled = wu .words; blended = we .content }
+-- what a table of eight words for the upsampling and one of 32 for the blending keep of up to eight extra channels
+pub kept-by : (f : Facts) (s : List ℕ) (a : FrontRead) (b : BackRead) (w w' x x' : List ℕ) → length w ≡ 8 → length x ≡ 32 → Fronted f s a w w'
+    → Backed f (a .value .opening) (a .value .crop) s (a .next) b x x' → Kept f s a b w' x'
+kept-by f s a b w w' x x' hw hx fa fb =
+    let ups = upsamplingFrom f (a .value .opening) s (a .«upsampling_at») in
+    let channels = words (blendingFrom f (a .value .opening) (a .value .crop) (b .value .blending .mode) s (b .«blending_at»)) in
+    let many : length ups ≡ f .extra = times-length (f .extra) 0 _ s (a .«upsampling_at») in
+    let more : length channels ≡ 4 * f .extra = words-length _ ∙ ap (λ (n : ℕ). 4 * n) (times-length (f .extra) 0 _ s (b .«blending_at»)) in
+    record {
+      room = (ap length (fa .kept) ∙ length-sets w 0 ups ∙ hw, ap length (fb .kept) ∙ length-sets x 0 channels ∙ hx);
+      upsampled = λ low. ap (take (f .extra)) (fa .kept) ∙ in-front ups w (f .extra) many (omega (arith, low, hw));
+      blended = λ low. ap (take (4 * f .extra)) (fb .kept) ∙ in-front channels x (4 * f .extra) more (omega (arith, low, hx));
+    }
+
+-- the extra channels, kept or read again
+module _ (f : Facts) (s : List ℕ) (a : FrontRead) (b : BackRead) (upsampling upsampling' blending blending' : List ℕ) where
+  pub given-kept : (ups channels : List ℕ) → Kept f s a b ups channels → f .extra ≤ 8 → upsampling' ≡ sets upsampling 0 (take (f .extra) ups)
+      → blending' ≡ sets blending 0 (take (4 * f .extra) channels) → Given f s a b upsampling upsampling' blending blending'
+  given-kept ups channels k low eu eb = record { upsampled = eu ∙ ap (sets upsampling 0) (k .upsampled low); blended = eb ∙ ap (sets blending 0) (k .blended low) }
+
+  pub given-read : (w e : Cursor)
+      → Arrayed (u32 upsamplings) (sentUpsampling f (a .value .opening)) (f .extra) 1 s (a .«upsampling_at») w upsampling upsampling'
+      → Extras (shown (a .value .opening)) (f .extra) (coversImage f (a .value .crop)) (byColour (b .value .blending .mode)) s (b .«blending_at») e blending blending'
+      → Given f s a b upsampling upsampling' blending blending'
+  given-read w e wu we = record { upsampled = wu .words; blended = we .content }
+
+  -- the record and the arrays of what was read
+  pub filled-by : (hd : FrameHeader) (acc : Refusal) (name name' : List ℕ) (n : Cursor) → hd ≡ frameHeader f (a .value) (b .value) → acc ≡ none
+      → Given f s a b upsampling upsampling' blending blending'
+      → Arrayed (u 8) (b .value .closing .«name_length») (b .value .closing .«name_length») 0 s (b .«name_at») n name name'
+      → Filled f s a b (record { header = hd; end = b .next .at; refusal = acc }) name name' upsampling upsampling' blending blending'
+  filled-by hd acc name name' n eh ea g wn = record { answer = rw (eh, ea); named = wn .words; channels = g }
 
 -- the record of what was read
 pub assembled : (f : Facts) (a : Front) (b : Back) (k : FrameType) (e : Encoding) (ch : ℕ) (x y : ℤ) (i : BlendingInfo) (full r : Bool)

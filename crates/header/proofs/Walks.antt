@@ -9,8 +9,8 @@ use mathlib.Core.Logic.{by-cases}
 use native.Mathlib.Decide.{decLe}
 use lib.Dec.{ltb, leb}
 use borrow.Author.Tests.{lt-ltb, le-ltb, ltb-true, le-leb, lt-leb, leb-true, not-true, not-false}
-use lib.ListN.{length, set, take, drop, length-set, length-replicate, replicate}
-use lib.Seq.{sets, length-sets, sets-eq, drop-length}
+use lib.ListN.{length, set, take, drop, getD, length-set}
+use lib.Seq.{sets, sets-eq, drop-length, take-at, length-take-le, drop-cons, getD-take}
 use Rattle.bits.specs.declared.Cursor.{Cursor}
 use Rattle.bits.specs.declared.pieces.Piece.{Piece}
 use Rattle.bits.specs.declared.Field.{Field}
@@ -94,6 +94,45 @@ pub sets-whole : (vs l : List ℕ) → length vs ≡ length l → sets l 0 vs �
 sets-whole vs l e =
     let all : 0 + length vs ≡ length l = omega arith in
     sets-eq vs l 0 (omega arith) ∙ ap (λ (n : ℕ). vs ++ drop n l) all ∙ ap (λ (r : List ℕ). vs ++ r) (drop-length l) ∙ append-nil vs
+
+-- a table that has room for the words that were read has them in front
+pub in-front : (vs l : List ℕ) (n : ℕ) → length vs ≡ n → n ≤ length l → take n (sets l 0 vs) ≡ vs
+in-front vs l n e h = ap (take n) (sets-eq vs l 0 (omega arith)) ∙ take-at vs (drop (0 + length vs) l) n e
+
+-- four words a channel
+pub words-length : (bs : List Blending) → length (words bs) ≡ 4 * length bs
+unfolding words
+words-length [] = refl
+words-length (b ∷ bs) =
+    let four : suc (suc (suc (suc (4 * length bs)))) ≡ 4 * suc (length bs) = omega arith in
+    ap (λ (n : ℕ). suc (suc (suc (suc n)))) (words-length bs) ∙ four
+
+-- words of one table at the front of another: after i turns, what is left to put
+pub record LeftWords (from : List ℕ) (n : ℕ) (before table : List ℕ) (i : ℕ) : Type 0 where
+  pub within : i ≤ n
+  pub size : length table ≡ length before
+  pub content : sets before 0 (take n from) ≡ sets table i (drop i (take n from))
+
+module _ (from : List ℕ) (n : ℕ) (before : List ℕ) where
+  pub words-none : LeftWords from n before before 0
+  words-none = record { within = omega arith; size = refl; content = refl }
+
+  module _ (table : List ℕ) (i : ℕ) (l : LeftWords from n before table i) where
+    pub words-more : n ≤ length from → i < n → (v : ℕ) (after : List ℕ) → v ≡ getD from i 0 → after ≡ set table i v → LeftWords from n before after (i + 1)
+    words-more room h v after ev ea =
+        let there : i < length (take n from) = rw (length-take-le n from room) h in
+        let one : drop i (take n from) ≡ v ∷ drop (suc i) (take n from) =
+        drop-cons (take n from) i 0 there ∙ ap (λ (y : ℕ). y ∷ drop (suc i) (take n from)) (getD-take n from i 0 h ∙ sym ev) in
+        record {
+          within = omega arith;
+          size = ap length ea ∙ length-set table i v ∙ l .size;
+          content = l .content ∙ ap (sets table i) one ∙ rw (ea, add-one i);
+        }
+
+    pub words-all : n ≤ length from → n ≤ i → table ≡ sets before 0 (take n from)
+    words-all room h =
+        let end : i ≡ length (take n from) = omega (arith, l .within, length-take-le n from room) in
+        sym (l .content ∙ ap (λ (j : ℕ). sets table i (drop j (take n from))) end ∙ ap (sets table i) (drop-length (take n from)))
 
 pub byte-lt : (s : List ℕ) (c : Cursor) (f : Field) → f ≡ field s true (u 8) 0 c → f .value < 256
 byte-lt s c f e = rw e (field-lt s 8 c)

@@ -68,7 +68,7 @@ pub front-law : (s : List ℕ) (f : Facts) (b : Cursor) (a : OpeningRead) (y : C
       value = record { opening = a .value; quant = q .value; passes = p .value; crop = c .value };
       «upsampling_at» = a .next;
       next = c .next;
-    })
+    }) w w'
 unfolding front read
 front-law s f b a y w w' q p c pb pa pu pq pp pc =
     let ups = read (array (u32 upsamplings) (sentUpsampling f (a .value)) (f .extra) 1 (λ (x : List ℕ) (i : ℕ). 0)) s (a .next) .value in
@@ -81,7 +81,7 @@ front-law s f b a y w w' q p c pb pa pu pq pp pc =
     ∙ then-within (λ h. h .front .passes) (passes (eqb (a .value .«all_default») 0 && not (eqb (a .value .«frame_type») 2))) _ s (q .next) (record { value = p .value; next = p .next })
     (ap (λ (r : PassesRead). record { value = r .value; next = r .next }) pp)
     ∙ then-within (λ h. h .front .crop) (crop f (a .value)) _ s (p .next) (record { value = c .value; next = c .next }) (ap (λ (r : CropRead). record { value = r .value; next = r .next }) pc) in
-    record { value = ap (λ (o : Out Begun). o .value .front) is; upsampling = ap (λ (o : Out Begun). o .value .upsampling) is; next = ap (λ (o : Out Begun). o .next) is }
+    record { value = ap (λ (o : Out Begun). o .value .front) is; upsampling = ap (λ (o : Out Begun). o .value .upsampling) is; next = ap (λ (o : Out Begun). o .next) is; kept = pu .words }
 
 pub back-law : (s : List ℕ) (c : Cursor) (f : Facts) (o : Opening) (p : Crop) (b : BlendingRead) (x : Cursor) (w w' : List ℕ) (e : ClosingRead) (n : Cursor) (r : FilterRead) (z : Cursor)
     → b ≡ blendingRead (read (blending (shown o) (not (eqb (f .extra) 0)) (coversImage f p) byOwn) s c)
@@ -95,7 +95,7 @@ pub back-law : (s : List ℕ) (c : Cursor) (f : Facts) (o : Opening) (p : Crop) 
       «blending_at» = b .next;
       «name_at» = e .next;
       next = z;
-    })
+    }) w w'
 unfolding back read
 back-law s c f o p b x w w' e n r z pb px pe pn pr pz =
     let full = coversImage f p in
@@ -120,4 +120,5 @@ back-law s c f o p b x w w' e n r z pb px pe pn pr pz =
       blending = ap (λ (y : Out Ended). y .value .blending) is;
       name = ap (λ (y : Out Ended). y .value .name) is;
       next = ap (λ (y : Out Ended). y .next) is;
+      kept = px .content;
     }

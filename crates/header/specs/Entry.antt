@@ -1,23 +1,22 @@
 -- The entry: what it refuses, what it answers, and what the lent buffers hold after it.
-use Prim.Native.Nat.{ℕ, _*_}
+use Prim.Native.Nat.{ℕ, _*_, _≤_}
 use mathlib.Core.Path.{_≡_}
 use mathlib.Core.Bool.{Bool, _&&_, _||_}
 use mathlib.Core.List.{List}
 use lib.Dec.{leb, ltb, eqb}
-use lib.ListN.{length}
+use lib.ListN.{length, take}
 use lib.Seq.{sets}
 use Rattle.bits.specs.declared.Refusal.{Refusal}
 use Rattle.bits.specs.Refusals.{pick, refusal, none, start}
-use Rattle.bits.specs.Codec.{u, u32}
+use Rattle.bits.specs.Codec.{u}
 use Rattle.bits.specs.Table.{Out, read}
 use Rattle.header.specs.declared.Facts.{Facts}
 use Rattle.header.specs.declared.entry.HeaderAnswer.{HeaderAnswer}
 use Rattle.header.specs.declared.parts.FrontRead.{FrontRead}
 use Rattle.header.specs.declared.parts.BackRead.{BackRead}
 use Rattle.header.specs.Arrays.{array}
-use Rattle.header.specs.Opening.{upsamplings}
-use Rattle.header.specs.Blending.{coversImage, byColour, words, extras}
-use Rattle.header.specs.Header.{Header, sentUpsampling, shown, header}
+use Rattle.header.specs.Blending.{words}
+use Rattle.header.specs.Header.{Header, upsamplingFrom, blendingFrom, header}
 use Rattle.header.specs.Questions.{frameHeader, zeroHeader}
 
 -- width and height from 1 to 1,073,741,824, and at most 256 extra channels
@@ -55,14 +54,22 @@ answered f before h =
 abbrev pub kept : Refusal → Out Header → List ℕ → List ℕ → List ℕ
 kept before h new buffer = pick (eqb (refusalOf before h .number) 0) (sets buffer 0 new) buffer
 
+-- what was kept of up to eight extra channels: all their words, in front
+pub record Kept (f : Facts) (s : List ℕ) (a : FrontRead) (b : BackRead) (ups channels : List ℕ) : Type 0 where
+  pub room : (length ups ≡ 8) × (length channels ≡ 32)
+  pub upsampled : f .extra ≤ 8 → take (f .extra) ups ≡ upsamplingFrom f (a .value .opening) s (a .«upsampling_at»)
+  pub blended : f .extra ≤ 8 → take (4 * f .extra) channels ≡ words (blendingFrom f (a .value .opening) (a .value .crop) (b .value .blending .mode) s (b .«blending_at»))
+
+-- the extra channels' words in front of the lent buffers
+pub record Given (f : Facts) (s : List ℕ) (a : FrontRead) (b : BackRead) (upsampling upsampling' blending blending' : List ℕ) : Type 0 where
+  pub upsampled : upsampling' ≡ sets upsampling 0 (upsamplingFrom f (a .value .opening) s (a .«upsampling_at»))
+  pub blended : blending' ≡ sets blending 0 (words (blendingFrom f (a .value .opening) (a .value .crop) (b .value .blending .mode) s (b .«blending_at»)))
+
 -- what is answered of a header that was read in two parts: the record, and the arrays in front of the lent buffers
 pub record Filled (f : Facts) (s : List ℕ) (a : FrontRead) (b : BackRead) (r : HeaderAnswer) (name name' upsampling upsampling' blending blending' : List ℕ) : Type 0 where
   pub answer : r ≡ record { header = frameHeader f (a .value) (b .value); end = b .next .at; refusal = none }
   pub named : name' ≡ sets name 0 (read (array (u 8) (b .value .closing .«name_length») (b .value .closing .«name_length») 0 (λ (x : List ℕ) (i : ℕ). 0)) s (b .«name_at») .value)
-  pub upsampled : upsampling'
-      ≡ sets upsampling 0 (read (array (u32 upsamplings) (sentUpsampling f (a .value .opening)) (f .extra) 1 (λ (x : List ℕ) (i : ℕ). 0)) s (a .«upsampling_at») .value)
-  pub blended : blending'
-      ≡ sets blending 0 (words (read (extras (shown (a .value .opening)) (f .extra) (coversImage f (a .value .crop)) (byColour (b .value .blending .mode))) s (b .«blending_at») .value))
+  pub channels : Given f s a b upsampling upsampling' blending blending'
 
 pub record Headed (f : Facts) (s : List ℕ) (r : HeaderAnswer) (name name' upsampling upsampling' blending blending' : List ℕ) : Type 0 where
   pub answer : r ≡ answered f (judged (length s) f (length name) (length upsampling) (length blending)) (stands f s)

@@ -5,6 +5,7 @@ use mathlib.Core.Bool.{Bool, true, false, not, _&&_, _||_}
 use mathlib.Core.List.{List}
 use lib.Dec.{eqb}
 use lib.ListN.{getD}
+use lib.Seq.{sets}
 use Rattle.bits.specs.declared.Cursor.{Cursor}
 use Rattle.bits.specs.Refusals.{pick, start}
 use Rattle.bits.specs.Codec.{u, u32}
@@ -23,7 +24,7 @@ use Rattle.types.specs.Types.{flagged}
 use Rattle.header.specs.Arrays.{array}
 use Rattle.header.specs.Opening.{opening, upsamplings}
 use Rattle.header.specs.Shape.{passes, quant, crop}
-use Rattle.header.specs.Blending.{coversImage, resets, byOwn, byColour, blending, extras}
+use Rattle.header.specs.Blending.{coversImage, resets, byOwn, byColour, blending, extras, words}
 use Rattle.header.specs.Closing.{closing}
 
 -- all that a header says
@@ -86,16 +87,25 @@ header f =
     bind (back f (b .front .opening) (b .front .crop)) λ e.
     ends (record { front = b .front; upsampling = b .upsampling; back = e .back; blending = e .blending; name = e .name })
 
--- the parts as they are read, and where their arrays begin
-pub record Fronted (f : Facts) (s : List ℕ) (r : FrontRead) : Type 0 where
+-- the extra channels from where their upsampling begins, and from where their blending does
+abbrev pub upsamplingFrom : Facts → Opening → List ℕ → Cursor → List ℕ
+upsamplingFrom f o s c = read (array (u32 upsamplings) (sentUpsampling f o) (f .extra) 1 (λ (x : List ℕ) (i : ℕ). 0)) s c .value
+
+abbrev pub blendingFrom : Facts → Opening → Crop → ℕ → List ℕ → Cursor → List Blending
+blendingFrom f o p mode s c = read (extras (shown o) (f .extra) (coversImage f p) (byColour mode)) s c .value
+
+-- the parts as they are read, where their arrays begin, and what a lent table holds of the extra channels
+pub record Fronted (f : Facts) (s : List ℕ) (r : FrontRead) (before after : List ℕ) : Type 0 where
   pub value : read (front f) s (start 0) .value .front ≡ r .value
   pub upsampling : read (front f) s (start 0) .value .upsampling
-      ≡ read (array (u32 upsamplings) (sentUpsampling f (r .value .opening)) (f .extra) 1 (λ (x : List ℕ) (i : ℕ). 0)) s (r .«upsampling_at») .value
+      ≡ upsamplingFrom f (r .value .opening) s (r .«upsampling_at»)
   pub next : read (front f) s (start 0) .next ≡ r .next
+  pub kept : after ≡ sets before 0 (upsamplingFrom f (r .value .opening) s (r .«upsampling_at»))
 
-pub record Backed (f : Facts) (o : Opening) (p : Crop) (s : List ℕ) (c : Cursor) (r : BackRead) : Type 0 where
+pub record Backed (f : Facts) (o : Opening) (p : Crop) (s : List ℕ) (c : Cursor) (r : BackRead) (before after : List ℕ) : Type 0 where
   pub value : read (back f o p) s c .value .back ≡ r .value
-  pub blending : read (back f o p) s c .value .blending ≡ read (extras (shown o) (f .extra) (coversImage f p) (byColour (r .value .blending .mode))) s (r .«blending_at») .value
+  pub blending : read (back f o p) s c .value .blending ≡ blendingFrom f o p (r .value .blending .mode) s (r .«blending_at»)
   pub name : read (back f o p) s c .value .name
       ≡ read (array (u 8) (r .value .closing .«name_length») (r .value .closing .«name_length») 0 (λ (x : List ℕ) (i : ℕ). 0)) s (r .«name_at») .value
   pub next : read (back f o p) s c .next ≡ r .next
+  pub kept : after ≡ sets before 0 (words (blendingFrom f o p (r .value .blending .mode) s (r .«blending_at»)))

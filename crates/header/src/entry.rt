@@ -1,6 +1,7 @@
 // The entry: bytes, facts and three lent outputs to the header's record.
 use crate::Facts;
 use crate::FrameHeader;
+use crate::arrays::put_words;
 use crate::arrays::read_bytes;
 use crate::arrays::read_u32_array;
 use crate::blending::Blending;
@@ -40,7 +41,7 @@ use types::frame_type_of;
 ghost use mathlib.Core.Path.{_≡_};
 ghost use lib.ListN.{length};
 ghost use Rattle.header.specs.Questions.{colorChannels, blendingInfo, frameHeader, noPasses, zeroHeader};
-ghost use Rattle.header.specs.Entry.{badFacts, judged, refusedHeader, Filled, Headed};
+ghost use Rattle.header.specs.Entry.{badFacts, judged, refusedHeader, Kept, Given, Filled, Headed};
 
 // The record with the bit place after the header, or a refusal beside the zero record.
 pub struct HeaderAnswer {
@@ -217,24 +218,29 @@ fn judge(n: usize, f: Facts, name: usize, upsampling: usize, blending: usize) ->
     if short { refused(3, 0) } else { accepted() }
 }
 
-// The record of a header that was read, and its arrays, read again into the lent buffers.
-fn give_read(
+// The extra channels' words in the lent buffers: as they were kept, or read again where they are too many to keep.
+fn give_channels(
     s: &[u8],
     f: Facts,
     a: FrontRead,
     b: BackRead,
-    name: &mut [u8],
+    ups: &[u32],
+    channels: &[u32],
     upsampling: &mut [u32],
     blending: &mut [u32],
-) -> HeaderAnswer
-    ensures { λ r. ⌜ Filled f (now (s .entry)) a b r (now (name .entry)) (now (name .exit)) (now (upsampling .entry)) (now (upsampling .exit)) (now (blending .entry)) (now (blending .exit)) ⌝ }
+)
+    requires { ⌜ Kept f (now s) a b (now ups) (now channels) ⌝ }
+    ensures { λ _. ⌜ Given f (now (s .entry)) a b (now (upsampling .entry)) (now (upsampling .exit)) (now (blending .entry)) (now (blending .exit)) ⌝ }
 {
+    if f.extra <= 8 {
+        let n = f.extra as usize;
+        put_words(ups, n, upsampling);
+        put_words(channels, 4 * n, blending);
+        return;
+    }
     let front = a.value;
     let back = b.value;
-    let end = b.next;
     let o = front.opening;
-    let crop = front.crop;
-    let closing = back.closing;
     let colour = back.blending;
     read_u32_array(
         s,
@@ -250,13 +256,35 @@ fn give_read(
         b.blending_at,
         is_shown(o),
         f.extra,
-        covers_image(f, crop),
+        covers_image(f, front.crop),
         Decider {
             own: false,
             mode: colour.mode,
         },
         blending,
     );
+}
+
+// The record of a header that was read, and its arrays in the lent buffers; the name is read there.
+fn give_read(
+    s: &[u8],
+    f: Facts,
+    a: FrontRead,
+    b: BackRead,
+    ups: &[u32],
+    channels: &[u32],
+    name: &mut [u8],
+    upsampling: &mut [u32],
+    blending: &mut [u32],
+) -> HeaderAnswer
+    requires { ⌜ Kept f (now s) a b (now ups) (now channels) ⌝ }
+    ensures { λ r. ⌜ Filled f (now (s .entry)) a b r (now (name .entry)) (now (name .exit)) (now (upsampling .entry)) (now (upsampling .exit)) (now (blending .entry)) (now (blending .exit)) ⌝ }
+{
+    let front = a.value;
+    let back = b.value;
+    let end = b.next;
+    let closing = back.closing;
+    give_channels(s, f, a, b, ups, channels, upsampling, blending);
     read_bytes(s, b.name_at, closing.name_length, name);
     let header = assemble(f, front, back);
     HeaderAnswer {
@@ -284,15 +312,17 @@ pub fn read_frame_header(
     if all.value == 1 {
         return give_default(s, all.next, f, upsampling, blending);
     }
-    let a = read_front(s, f);
+    let mut ups = [0u32; 8];
+    let a = read_front(s, f, &mut ups);
     let front = a.value;
     let o = front.opening;
     let crop = front.crop;
-    let b = read_back(s, a.next, f, o, crop);
+    let mut channels = [0u32; 32];
+    let b = read_back(s, a.next, f, o, crop, &mut channels);
     let end = b.next;
     let fault = end.fault;
     if fault.number != 0 {
         return refused_header(fault);
     }
-    give_read(s, f, a, b, name, upsampling, blending)
+    give_read(s, f, a, b, &ups, &channels, name, upsampling, blending)
 }

@@ -77,13 +77,13 @@ pub fn is_shown(o: Opening) -> bool
     )
 }
 
-pub fn read_front(s: &[u8], f: Facts) -> FrontRead
-    ensures { λ r. ⌜ Fronted f (now (s .entry)) r ⌝ }
+// The extra channels' upsampling goes into a lent table, as much of it as that holds.
+pub fn read_front(s: &[u8], f: Facts, upsampling: &mut [u32]) -> FrontRead
+    ensures { λ r. ⌜ Fronted f (now (s .entry)) r (now (upsampling .entry)) (now (upsampling .exit)) ⌝ }
 {
     let a = read_opening(s, begin(0), f);
     let opening = a.value;
     let upsampling_at = a.next;
-    let mut word = [0u32; 1];
     let u = read_u32_array(
         s,
         upsampling_at,
@@ -91,7 +91,7 @@ pub fn read_front(s: &[u8], f: Facts) -> FrontRead
         f.extra,
         upsampling_choices(),
         1,
-        &mut word,
+        upsampling,
     );
     let q = read_quant(s, u, f, opening);
     let p = read_passes_if(
@@ -116,8 +116,16 @@ pub fn read_front(s: &[u8], f: Facts) -> FrontRead
     }
 }
 
-pub fn read_back(s: &[u8], c: Cursor, f: Facts, o: Opening, crop: Crop) -> BackRead
-    ensures { λ r. ⌜ Backed f o crop (now (s .entry)) c r ⌝ }
+// The extra channels' blending goes into a lent table, as much of it as that holds.
+pub fn read_back(
+    s: &[u8],
+    c: Cursor,
+    f: Facts,
+    o: Opening,
+    crop: Crop,
+    channels: &mut [u32],
+) -> BackRead
+    ensures { λ r. ⌜ Backed f o crop (now (s .entry)) c r (now (channels .entry)) (now (channels .exit)) ⌝ }
 {
     let full = covers_image(f, crop);
     let shown = is_shown(o);
@@ -131,7 +139,6 @@ pub fn read_back(s: &[u8], c: Cursor, f: Facts, o: Opening, crop: Crop) -> BackR
     );
     let blending = b.value;
     let blending_at = kept(b.next);
-    let mut word = [0u32; 1];
     let mode = blending.mode;
     let x = read_extra_blending(
         s,
@@ -140,7 +147,7 @@ pub fn read_back(s: &[u8], c: Cursor, f: Facts, o: Opening, crop: Crop) -> BackR
         f.extra,
         full,
         Decider { own: false, mode },
-        &mut word,
+        channels,
     );
     let e = read_closing(s, x, f, o, both(mode == 0, full));
     let closing = e.value;

@@ -1,7 +1,7 @@
 -- One bundle after the other.
-use borrow.Author.Needs.{needs}
 use mathlib.Core.Path.{_∙_}
 use Rattle.header.proofs.Whole.{front-law}
+use borrow.Author.Needs.{needs}
 use Rattle.header.proofs.parts.read_front.Statement.{statement}
 use Rattle.header.proofs.parts.read_front.Tie as tie
 
@@ -16,9 +16,6 @@ sent-upsampling-requires c κs = search needs
 
 upsampling-choices-requires : tie.Need-upsampling-choices-requires
 upsampling-choices-requires c κs = search needs
-
-slice-aggregate-read-u32-array : tie.Need-slice-aggregate-read-u32-array
-slice-aggregate-read-u32-array c = search needs
 
 read-u32-array-requires : tie.Need-read-u32-array-requires
 read-u32-array-requires c κs = search needs
@@ -35,12 +32,15 @@ read-passes-if-requires c κs = search needs
 read-crop-requires : tie.Need-read-crop-requires
 read-crop-requires c κs = search needs
 
+same-length : tie.Need-same-length
+same-length c = search needs
+
 returns : tie.Need-returns
 returns c =
-    front-law (c .before .before .before .before .before .before .before .before .before .before .before .before .before .before .before .before .before .before .before .before .args .s .now) (c .before .before .before .before .before .before .before .before .before .before .before .before .before .before .before .before .before .before .before .before .args .f) _ _ _ _ _ _ _ _
-    (c .before .before .before .before .before .before .before .before .before .before .before .before .before .before .before .before .before .before .begin .ensures)
-    (c .before .before .before .before .before .before .before .before .before .before .before .before .before .before .before .before .before .read-opening .ensures)
-    (rw (c .before .before .before .before .before .before .before .before .before .before .before .before .before .before .sent-upsampling .ensures, c .before .before .before .before .before .before .before .before .before .before .before .before .before .upsampling-choices .ensures) at (c .before .before .before .before .before .before .before .before .before .before .before .read-u32-array .ensures))
+    front-law (c .before .before .before .before .before .before .before .before .before .before .before .before .before .before .before .before .before .before .before .before .before .before .args .s .now) (c .before .before .before .before .before .before .before .before .before .before .before .before .before .before .before .before .before .before .before .before .before .before .args .f) _ _ _ (c .before .before .before .before .before .before .before .before .before .before .before .before .before .before .before .before .before .before .before .before .before .before .args .upsampling .now) _ _ _ _
+    (c .before .before .before .before .before .before .before .before .before .before .before .before .before .before .before .before .before .before .before .begin .ensures)
+    (c .before .before .before .before .before .before .before .before .before .before .before .before .before .before .before .before .before .before .read-opening .ensures)
+    (rw (c .before .before .before .before .before .before .before .before .before .before .before .before .before .before .before .sent-upsampling .ensures, c .before .before .before .before .before .before .before .before .before .before .before .before .before .before .upsampling-choices .ensures) at (c .before .before .before .before .before .before .before .before .before .before .before .before .read-u32-array .ensures))
     (c .before .before .before .before .before .before .before .before .before .read-quant .ensures)
     (c .before .before .before .before .before .read-passes-if .ensures ∙ rw (c .before .before .before .before .before .before .both .ensures))
     (c .before .before .before .before .read-crop .ensures)
@@ -53,10 +53,10 @@ read-front-spec =
     read-opening-requires
     sent-upsampling-requires
     upsampling-choices-requires
-    slice-aggregate-read-u32-array
     read-u32-array-requires
     read-quant-requires
     both-requires
     read-passes-if-requires
     read-crop-requires
+    same-length
     returns)
