@@ -15,7 +15,11 @@ use Rattle.bits.specs.Steps.{Steps, gives, refuses, takes, passes, refus
 use Rattle.bits.specs.Codec.{Codec, u, bool, u32, cases, u64, f16, padding, skip, steps, chosen, more, field}
 use Rattle.bits.specs.Table.{Table, ends, row, fails, Out, failed, read, bind, within, times}
 use Rattle.bits.specs.Extensions.{lengths, extensions}
-use Rattle.bits.proofs.Reading.{field-within, failed-same}
+use Rattle.bits.proofs.Reading.{picked, field-within, failed-same}
+
+-- what holds of both choices holds of the pick
+pub of-both : {A : Type 0} (P : A → Type 0) (b : Bool) (x y : A) → P x → P y → P (pick b x y)
+of-both P b x y h k = picked P b x y (λ e. h) (λ e. k)
 
 -- a field type refuses with a number of the rules
 abbrev Low : Steps → Type 0
@@ -24,34 +28,25 @@ Low (refuses n) = n ≤ 14
 Low (takes n f) = (v : ℕ) → Low (f v)
 Low (passes n t) = Low t
 
-low-pick : (b : Bool) (x y : Steps) → Low x → Low y → Low (pick b x y)
-low-pick true x y h k = h
-low-pick false x y h k = k
-
 low-more : (k v : ℕ) → Low (more k v)
 unfolding more
-low-more zero v = λ b. low-pick (eqb b 0) (gives v) (takes 4 λ x. gives (v + x * 2 ^ 60)) tt (λ x. tt)
-low-more (suc k) v = λ b. low-pick (eqb b 0) (gives v) (takes 8 λ x. more k (v + x * 2 ^ (52 - 8 * k))) tt (λ x. low-more k (v + x * 2 ^ (52 - 8 * k)))
+low-more zero v = λ b. of-both Low (eqb b 0) (gives v) (takes 4 λ x. gives (v + x * 2 ^ 60)) tt (λ x. tt)
+low-more (suc k) v = λ b. of-both Low (eqb b 0) (gives v) (takes 8 λ x. more k (v + x * 2 ^ (52 - 8 * k))) tt (λ x. low-more k (v + x * 2 ^ (52 - 8 * k)))
 
 low : (k : Codec) (p : ℕ) → Low (steps k p)
 low (u n) p = λ v. tt
 low bool p = λ v. tt
 low (u32 d) p = λ k x. tt
 low (cases d n) p =
-    λ k x. low-pick (leb n ((chosen d k .base + x) % 2 ^ 32)) (refuses 5) (gives ((chosen d k .base + x) % 2 ^ 32)) (omega arith) tt
+    λ k x. of-both Low (leb n ((chosen d k .base + x) % 2 ^ 32)) (refuses 5) (gives ((chosen d k .base + x) % 2 ^ 32)) (omega arith) tt
 low u64 p =
     λ k.
-    low-pick (eqb k 0) (gives 0) (pick (eqb k 1) (takes 4 λ x. gives (1 + x)) (pick (eqb k 2) (takes 8 λ x. gives (17 + x)) (takes 12 λ x. more 6 x))) tt
-    (low-pick (eqb k 1) (takes 4 λ x. gives (1 + x)) (pick (eqb k 2) (takes 8 λ x. gives (17 + x)) (takes 12 λ x. more 6 x)) (λ x. tt)
-    (low-pick (eqb k 2) (takes 8 λ x. gives (17 + x)) (takes 12 λ x. more 6 x) (λ x. tt) (λ x. low-more 6 x)))
-low f16 p = λ h. low-pick (eqb (exponent h) 31) (refuses 6) (gives h) (omega arith) tt
-low padding p = λ x. low-pick (eqb x 0) (gives 0) (refuses 12) tt (omega arith)
+    of-both Low (eqb k 0) (gives 0) (pick (eqb k 1) (takes 4 λ x. gives (1 + x)) (pick (eqb k 2) (takes 8 λ x. gives (17 + x)) (takes 12 λ x. more 6 x))) tt
+    (of-both Low (eqb k 1) (takes 4 λ x. gives (1 + x)) (pick (eqb k 2) (takes 8 λ x. gives (17 + x)) (takes 12 λ x. more 6 x)) (λ x. tt)
+    (of-both Low (eqb k 2) (takes 8 λ x. gives (17 + x)) (takes 12 λ x. more 6 x) (λ x. tt) (λ x. low-more 6 x)))
+low f16 p = λ h. of-both Low (eqb (exponent h) 31) (refuses 6) (gives h) (omega arith) tt
+low padding p = λ x. of-both Low (eqb x 0) (gives 0) (refuses 12) tt (omega arith)
 low (skip n) p = tt
-
--- what holds of both choices holds of the pick
-pub of-both : {A : Type 0} (P : A → Type 0) (b : Bool) (x y : A) → P x → P y → P (pick b x y)
-of-both P true x y h k = h
-of-both P false x y h k = k
 
 run-low : (t : Steps) → Low t → (s : List ℕ) (p q : ℕ) → run t s p q .next .fault .number ≤ 14
 unfolding run

@@ -39,7 +39,7 @@ pub field-lt : (s : List ℕ) (n : ℕ) (c : Cursor) → field s true (u n) 0 c 
 field-lt s n c = lt-by s n c (clear c) (there s (c .at) n) refl refl
 
 -- what holds of both choices, each under its test, holds of the pick
-picked : {A : Type 0} (P : A → Type 0) (b : Bool) (x y : A) → (b ≡ true → P x) → (b ≡ false → P y) → P (pick b x y)
+pub picked : {A : Type 0} (P : A → Type 0) (b : Bool) (x y : A) → (b ≡ true → P x) → (b ≡ false → P y) → P (pick b x y)
 picked P true x y h k = h refl
 picked P false x y h k = k refl
 

@@ -2,7 +2,7 @@
 -- of a quotient, and behind the end there are zeros.
 use Prim.Native.Nat.{ℕ, zero, suc, _+_, _-_, _*_, _/_, _%_, _^_, _≤_, _<_, min}
 use native.Mathlib.Omega.{arith}
-use native.Mathlib.Nat.{add-zero, zero-add, add-suc, add-assoc, add-comm, zero-mul, one-mul, mul-assoc, mul-comm, add-mul, zero-div, zero-mod, mod-one, mod-eq-of-lt}
+use native.Mathlib.Nat.{add-zero, zero-add, add-suc, add-assoc, add-comm, zero-mul, one-mul, mul-assoc, mul-comm, add-mul, zero-div, div-one, zero-mod, mod-one, mod-eq-of-lt}
 use mathlib.Core.Path.{_≡_, refl, sym, _∙_, ap}
 use mathlib.Core.List.{List}
 use mathlib.Core.Bool.{Bool, true, false}
@@ -109,19 +109,17 @@ pub whole-reaches : (s : List ℕ) (p n : ℕ) (w : Bool) → w ≡ ahead s p .w
 unfolding ahead
 whole-reaches s p n w e t h = omega (arith, leb-true (p / 8 + 8) (min (length s) 16777216) (sym e ∙ t))
 
--- a field's bits are the lowest of those ahead
-pub peeked : (s : List ℕ) (p n w v : ℕ) → n ≤ 32 → w ≡ ahead s p .bits → v ≡ w % 2 ^ min n 32 → v ≡ bitsAt s p n
+-- a field's bits are among those ahead, r behind the place
+pub peeked-after : (s : List ℕ) (p r n w v : ℕ) → n ≤ 32 → r + n ≤ 56 → w ≡ ahead s p .bits → v ≡ w / 2 ^ r % 2 ^ min n 32 → v ≡ bitsAt s (p + r) n
 unfolding ahead
-peeked s p n w v h ew ev =
+peeked-after s p r n w v h hr ew ev =
     let all : min n 32 ≡ n = omega arith in
-    ev ∙ rw (all, ew) (low-of s p 56 n (omega arith))
+    ev ∙ rw (all, ew) (part-of s p 56 r n hr)
 
--- so are those after a selector, two bits further
-pub peeked-after : (s : List ℕ) (p n w v : ℕ) → n ≤ 32 → w ≡ ahead s p .bits → v ≡ w / 4 % 2 ^ min n 32 → v ≡ bitsAt s (p + 2) n
-unfolding ahead
-peeked-after s p n w v h ew ev =
-    let all : min n 32 ≡ n = omega arith in
-    ev ∙ rw (all, ew) (part-of s p 56 2 n (omega arith))
+-- at the place itself they are the lowest
+pub peeked : (s : List ℕ) (p n w v : ℕ) → n ≤ 32 → w ≡ ahead s p .bits → v ≡ w % 2 ^ min n 32 → v ≡ bitsAt s p n
+peeked s p n w v h ew ev =
+    peeked-after s p 0 n w v h (omega arith) ew (ev ∙ ap (λ (x : ℕ). x % 2 ^ min n 32) (sym (div-one w))) ∙ ap (λ (q : ℕ). bitsAt s q n) (add-zero p)
 
 -- one, shifted up by k, is 2 ^ k; less one it is the mask of k bits
 pub one-shifted : (k : ℕ) → k ≤ 32 → 1 * 2 ^ k % 18446744073709551616 ≡ 2 ^ k

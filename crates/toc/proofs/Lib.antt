@@ -1,4 +1,5 @@
 pub mod Walking
+pub mod Sizing
 pub mod Judging
 pub mod Filling
 pub mod Entering

@@ -18,6 +18,7 @@ use Rattle.bits.specs.Codec.{u32, padding, field, chosen}
 use Rattle.bits.specs.Table.{ends, row, Out, read, bind, times}
 use Rattle.bits.proofs.Bits.{bits-lt}
 use Rattle.bits.proofs.Tables.{read-bind}
+use Rattle.bits.proofs.Numbered.{of-both}
 use Rattle.order.specs.Tables.{tabulate}
 use Rattle.order.specs.Sums.{sumTo}
 use Rattle.order.proofs.Tables.{tabulate-ext}
@@ -26,17 +27,12 @@ use Rattle.toc.specs.declared.reading.Walk.{Walk}
 use Rattle.toc.specs.Sizes.{sizeChoices, sizeRow, sizeRows}
 use Rattle.toc.specs.Walks.{cursorAt, sizeAt, offsetAt, padded, walked}
 
--- what holds of both choices holds of the pick
-pub pick-by : {A : Type 0} (P : A → Type 0) (b : Bool) (x y : A) → P x → P y → P (pick b x y)
-pick-by P true x y h k = h
-pick-by P false x y h k = k
-
 -- a size is below 4211712 + 2^30
-choice-small : (k : ℕ) → chosen sizeChoices k .base + 2 ^ chosen sizeChoices k .bits ≤ 1077953536
+pub choice-small : (k : ℕ) → chosen sizeChoices k .base + 2 ^ chosen sizeChoices k .bits ≤ 1077953536
 choice-small k =
-    pick-by (λ (c : Choice). c .base + 2 ^ c .bits ≤ 1077953536) (eqb k 0) _ _ (lit≤ tt)
-    (pick-by (λ (c : Choice). c .base + 2 ^ c .bits ≤ 1077953536) (eqb k 1) _ _ (lit≤ tt)
-    (pick-by (λ (c : Choice). c .base + 2 ^ c .bits ≤ 1077953536) (eqb k 2) _ _ (lit≤ tt) (lit≤ tt)))
+    of-both (λ (c : Choice). c .base + 2 ^ c .bits ≤ 1077953536) (eqb k 0) _ _ (lit≤ tt)
+    (of-both (λ (c : Choice). c .base + 2 ^ c .bits ≤ 1077953536) (eqb k 1) _ _ (lit≤ tt)
+    (of-both (λ (c : Choice). c .base + 2 ^ c .bits ≤ 1077953536) (eqb k 2) _ _ (lit≤ tt) (lit≤ tt)))
 
 pub field-small : (s : List ℕ) (c : Cursor) → field s true (u32 sizeChoices) 0 c .value < 1077953536
 unfolding field run
@@ -47,9 +43,9 @@ field-small s c =
     let x : ℕ = bitsAt s (p + 2) (ch .bits) in
     let low : (ch .base + x) % 2 ^ 32 < 1077953536 =
     omega (arith, mod-le (ch .base + x) (2 ^ 32), bits-lt s (p + 2) (ch .bits), choice-small k) in
-    pick-by (λ (r : Field). r .value < 1077953536) (clear c) _ _
-    (pick-by (λ (r : Field). r .value < 1077953536) (there s p 2) _ _
-    (pick-by (λ (r : Field). r .value < 1077953536) (there s (p + 2) (ch .bits)) _ _ low (lit≤ tt))
+    of-both (λ (r : Field). r .value < 1077953536) (clear c) _ _
+    (of-both (λ (r : Field). r .value < 1077953536) (there s p 2) _ _
+    (of-both (λ (r : Field). r .value < 1077953536) (there s (p + 2) (ch .bits)) _ _ low (lit≤ tt))
     (lit≤ tt))
     (lit≤ tt)
 

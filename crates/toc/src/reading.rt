@@ -2,8 +2,6 @@
 // the order that a flag of 1 asks for, and goes on at the padding. Nothing is written before the whole table is known to be good.
 use crate::Toc;
 use crate::TocRead;
-use bits::Choice;
-use bits::Choices;
 use bits::Cursor;
 use bits::Field;
 use bits::Refusal;
@@ -12,9 +10,12 @@ use grid::Grid;
 ghost use mathlib.Core.Path.{_≡_};
 ghost use Rattle.toc.specs.Reading.{Done, tables, roomFor, judgedBy, firstReading, secondReading};
 ghost use mathlib.Core.Bool.{true};
-ghost use Prim.Native.Nat.{_≤_};
+ghost use Prim.Native.Nat.{_+_, _/_, _%_, _^_, _≤_, _<_};
+ghost use lib.Dec.{leb};
 ghost use lib.ListN.{length, set, take};
-ghost use Rattle.bits.specs.Codec.{u32, field};
+ghost use Rattle.bits.specs.Refusals.{start};
+ghost use Rattle.bits.specs.Bits.{bitCount, ahead};
+ghost use Rattle.bits.specs.Codec.{u32, chosen, field};
 ghost use Rattle.order.specs.Tables.{placedBy};
 ghost use Rattle.toc.specs.Sizes.{sizeChoices};
 ghost use Rattle.toc.specs.Walks.{walked, sizeAt, offsetAt};
@@ -57,26 +58,65 @@ struct Walk {
     total: u64,
 }
 
-// One size: U32(u(10), 1024 + u(14), 17408 + u(22), 4211712 + u(30)).
+// How many bits follow a size's selector: 10, 14, 22 or 30, a byte each in one number.
+fn size_bits(k: u32) -> u32
+    requires { ⌜ k < 4 ⌝ }
+    ensures { λ r. ⌜ r ≡ chosen sizeChoices k .bits ⌝ }
+{
+    let widths: u32 = 504761866;
+    (widths >> (8 * k)) & 255
+}
+
+// Whether a selector is there from p on, and n bits after it, given whether eight bytes are.
+fn size_is_there(s: &[u8], p: u64, n: u32, whole: bool) -> bool
+    requires { ⌜ (n ≤ 32) × (whole ≡ ahead (now s) p .whole) ⌝ }
+    ensures { λ r. ⌜ r ≡ leb (p + (n + 2)) (bitCount (now (s .entry))) ⌝ }
+{
+    if whole {
+        true
+    } else {
+        bits::reaches(s, p, n + 2)
+    }
+}
+
+// A size of n bits behind the selector at p, out of the bits ahead of p.
+fn size_of(ahead: u64, p: u64, base: u32, n: u32) -> Field
+    requires { ⌜ (n ≤ 30) × (base < 2 ^ 31) × (p < 2 ^ 32) ⌝ }
+    ensures { λ r. ⌜ r ≡ record { value = base + ahead / 4 % 2 ^ n; next = start (p + 2 + n) } ⌝ }
+{
+    Field {
+        value: base + bits::low_bits(ahead >> 2, n),
+        next: bits::begin(p + 2 + (n as u64)),
+    }
+}
+
+// One size: U32(u(10), 1024 + u(14), 17408 + u(22), 4211712 + u(30)). Each choice goes its own way, so that the place of the next size
+// doesn't wait for this one's bits.
 fn read_size(s: &[u8], c: Cursor) -> Field
     ensures { λ r. ⌜ r ≡ field (now (s .entry)) true (u32 sizeChoices) 0 c ⌝ }
 {
-    let d = Choices {
-        d0: Choice { base: 0, bits: 10 },
-        d1: Choice {
-            base: 1024,
-            bits: 14,
-        },
-        d2: Choice {
-            base: 17408,
-            bits: 22,
-        },
-        d3: Choice {
-            base: 4211712,
-            bits: 30,
-        },
-    };
-    numbers::read_u32(s, c, d)
+    if bits::idle(c, true) {
+        return Field {
+            value: 0,
+            next: bits::kept(c),
+        };
+    }
+    let at = c.at;
+    let a = bits::look_ahead(s, at);
+    let k = bits::low_bits(a.bits, 2);
+    if !size_is_there(s, at, size_bits(k), a.whole) {
+        return bits::refused_at(4, at);
+    }
+    if k == 0 {
+        return size_of(a.bits, at, 0, 10);
+    }
+    if k == 1 {
+        return size_of(a.bits, at, 1024, 14);
+    }
+    if k == 2 {
+        return size_of(a.bits, at, 17408, 22);
+    }
+    size_of(a.bits, at, 4211712, 30)
 }
 
 // Padding, count sizes, padding: read and summed, nothing kept.

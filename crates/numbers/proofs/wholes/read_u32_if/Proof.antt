@@ -69,7 +69,7 @@ returns-3 c =
     let a = c .before .before .before .before .before .before .before .before .before .before .before .before .before .args in
     let e = c .before .before .before .before .before .before .before .choose .result in
     let narrow = u32-parts (a .s .now) (a .c .at) (e .bits) _ (c .before .before .before .before .before .before .u32-is-there .ensures) (c .before .before .before .before .before .if2 .left) .0 in
-    let bits = peeked-after (a .s .now) (a .c .at) (e .bits) _ _ narrow (ap (λ (w : Ahead). w .bits) (c .before .before .before .before .before .before .before .before .before .look-ahead .ensures)) (c .before .before .before .low-bits2 .ensures) in
+    let bits = peeked-after (a .s .now) (a .c .at) 2 (e .bits) _ _ narrow (omega (arith, narrow)) (ap (λ (w : Ahead). w .bits) (c .before .before .before .before .before .before .before .before .before .look-ahead .ensures)) (c .before .before .before .low-bits2 .ensures) in
     u32-read (a .s .now) (a .c .at) (a .d) _ (peeked (a .s .now) (a .c .at) 2 _ _ (omega arith) (ap (λ (w : Ahead). w .bits) (c .before .before .before .before .before .before .before .before .before .look-ahead .ensures)) (c .before .before .before .before .before .before .before .before .low-bits .ensures)) _ (c .before .before .before .before .before .before .before .choose .ensures) _ (c .before .before .before .before .before .before .u32-is-there .ensures) _ _ _ (c .before .before .before .before .before .if2 .left)
     (c .before .before .wrapping-add-u32 .ensures ∙ ap (λ (x : ℕ). (e .base + x) % 2 ^ 32) bits)
     refl

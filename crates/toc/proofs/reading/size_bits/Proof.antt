@@ -1,0 +1,20 @@
+-- One of four bytes.
+use Prim.Native.Nat.{_*_, _/_, _^_}
+use mathlib.Core.Path.{_∙_}
+use lib.Bits.{and-mask}
+use Rattle.toc.proofs.Sizing.{size-widths}
+use borrow.Author.Needs.{needs}
+use Rattle.toc.proofs.reading.size_bits.Statement.{statement}
+use Rattle.toc.proofs.reading.size_bits.Tie as tie
+
+mul-result : tie.Need-mul-result
+mul-result c = search needs
+
+shr-result : tie.Need-shr-result
+shr-result c = search needs
+
+returns : tie.Need-returns
+returns c = and-mask (504761866 / 2 ^ (8 * c .args .k)) 8 ∙ size-widths (c .args .k) (c .pre)
+
+pub size-bits-spec : {M : Type 1} → statement M
+size-bits-spec = tie.close (tie.spec mul-result shr-result returns)
