@@ -26,8 +26,8 @@ use Rattle.header.specs.declared.shape.Crop.{Crop}
 use Rattle.header.specs.declared.blending.Blending.{Blending}
 use Rattle.header.specs.declared.blending.Decider.{Decider}
 use Rattle.header.specs.declared.closing.Closing.{Closing}
-use Rattle.header.specs.declared.views.View.{View}
-use Rattle.header.specs.declared.views.Seen.{Seen}
+use Rattle.header.specs.declared.blending.View.{View}
+use Rattle.header.specs.declared.blending.Seen.{Seen}
 use Rattle.header.specs.Known.{seen, seenChoice}
 use Rattle.types.specs.Types.{flagged}
 use Rattle.header.specs.Opening.{opening, upsamplings}

@@ -20,8 +20,8 @@ use Rattle.bits.specs.Codec.{Codec, u, bool, u32, cases, field, val, plus, chos
 use Rattle.bits.proofs.Bits.{bits-lt}
 use Rattle.bits.proofs.Windows.{low-of, high-of, whole-reaches}
 use Rattle.bits.proofs.Codecs.{u32-read}
-use Rattle.header.specs.declared.views.View.{View}
-use Rattle.header.specs.declared.views.Seen.{Seen}
+use Rattle.header.specs.declared.blending.View.{View}
+use Rattle.header.specs.declared.blending.Seen.{Seen}
 use Rattle.header.specs.Known.{seen, seenChoice}
 
 -- at least so many bits are known, and they are there

@@ -3,8 +3,8 @@ use Prim.Native.Nat.{ℕ, _+_, _/_, _%_, _^_}
 use mathlib.Core.Bool.{Bool}
 use lib.Dec.{eqb}
 use Rattle.bits.specs.Refusals.{pick}
-use Rattle.header.specs.declared.views.View.{View}
-use Rattle.header.specs.declared.views.Seen.{Seen}
+use Rattle.header.specs.declared.blending.View.{View}
+use Rattle.header.specs.declared.blending.Seen.{Seen}
 
 -- n bits, where they are asked for: the lowest that are known, and behind them the others
 unfoldable pub seen : View → Bool → ℕ → Seen

@@ -1,5 +1,5 @@
 // Arrays of fields: the words of a lent table, or the bytes of a name. A place that the table hasn't is passed over, so the same walk
-// serves to judge, on a table of one word, and to fill.
+// serves to judge, on a small table, and to fill.
 use bits::Choices;
 use bits::Cursor;
 use bits::Piece;
@@ -16,8 +16,7 @@ ghost use mathlib.Core.Bool.{false, _&&_};
 ghost use mathlib.Core.List.{List};
 ghost use Prim.Native.Nat.{ℕ, _/_, _%_, _^_, _≤_, _<_};
 ghost use lib.Dec.{leb};
-ghost use lib.ListN.{length, set, take};
-ghost use lib.Seq.{sets};
+ghost use lib.ListN.{set};
 ghost use Rattle.bits.specs.Refusals.{pick, clear};
 ghost use Rattle.bits.specs.Steps.{piece};
 ghost use Rattle.bits.specs.Codec.{u, u32};
@@ -30,18 +29,6 @@ pub fn put(out: &mut [u32], k: usize, v: u32)
 {
     if k < out.len() {
         out[k] = v;
-    }
-}
-
-// The first n words of one table at the front of another, as many as that has.
-pub fn put_words(from: &[u32], n: usize, out: &mut [u32])
-    requires { ⌜ n ≤ length (now from) ⌝ }
-    ensures { λ _. ⌜ now (out .exit) ≡ sets (now (out .entry)) 0 (take n (now (from .entry))) ⌝ }
-{
-    let mut i: usize = 0;
-    while i < n {
-        put(out, i, from[i]);
-        i += 1;
     }
 }
 

@@ -2,9 +2,6 @@
 use crate::Facts;
 use crate::arrays::put;
 use crate::shape::Crop;
-use crate::views::View;
-use crate::views::see;
-use crate::views::see_choice;
 use bits::Choice;
 use bits::Choices;
 use bits::Cursor;
@@ -14,14 +11,16 @@ use bits::either;
 use bits::idle;
 use bits::kept;
 use bits::look_ahead;
+use bits::low_bits;
 use bits::read_bits_if;
 use bits::read_bool_if;
 use numbers::read_enum_if;
 use numbers::read_u32_if;
 use types::BlendMode;
 ghost use mathlib.Core.Path.{_≡_};
-ghost use Prim.Native.Nat.{_*_, _≤_, _+_, _<_};
+ghost use Prim.Native.Nat.{_*_, _≤_, _+_, _<_, _^_};
 ghost use Rattle.bits.specs.Table.{read};
+ghost use Rattle.header.specs.Known.{seen, seenChoice};
 ghost use Rattle.header.specs.Blending.{modes, alphas, coversSide, coversImage, hasSource, blending, blendingRead, Extras};
 
 pub struct BlendingInfo {
@@ -101,6 +100,54 @@ fn has_source(d: Decider, own: u32, full: bool) -> bool
         !both(own == 0, full)
     } else {
         !both(d.mode == 0, full)
+    }
+}
+
+// Bits that are known, from a place on.
+struct View {
+    pub bits: u64,
+    pub at: u64,
+}
+
+// A number out of them, and those behind it.
+struct Seen {
+    pub value: u32,
+    pub rest: View,
+}
+
+// n bits, where they are asked for.
+fn see(w: View, on: bool, n: u32) -> Seen
+    requires { ⌜ (n ≤ 8) × (w .at < 2 ^ 32) ⌝ }
+    ensures { λ r. ⌜ r ≡ seen w on n ⌝ }
+{
+    let bits = w.bits;
+    let at = w.at;
+    if !on {
+        return Seen {
+            value: 0,
+            rest: View { bits, at },
+        };
+    }
+    Seen {
+        value: low_bits(bits, n),
+        rest: View {
+            bits: bits >> n,
+            at: at + (n as u64),
+        },
+    }
+}
+
+// U32(0, 1, 2, 3 + u(n)), where it is asked for.
+fn see_choice(w: View, on: bool, n: u32) -> Seen
+    requires { ⌜ (n ≤ 8) × (w .at < 2 ^ 31) ⌝ }
+    ensures { λ r. ⌜ r ≡ seenChoice w on n ⌝ }
+{
+    let k = see(w, on, 2);
+    let more = see(k.rest, k.value == 3, n);
+    let rest = more.rest;
+    Seen {
+        value: k.value + more.value,
+        rest,
     }
 }
 

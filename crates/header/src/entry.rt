@@ -1,7 +1,7 @@
 // The entry: bytes, facts and three lent outputs to the header's record.
 use crate::Facts;
 use crate::FrameHeader;
-use crate::arrays::put_words;
+use crate::arrays::put;
 use crate::arrays::read_bytes;
 use crate::arrays::read_u32_array;
 use crate::blending::Blending;
@@ -39,7 +39,9 @@ use types::blend_mode_of;
 use types::encoding_of;
 use types::frame_type_of;
 ghost use mathlib.Core.Path.{_≡_};
-ghost use lib.ListN.{length};
+ghost use Prim.Native.Nat.{_≤_};
+ghost use lib.ListN.{length, take};
+ghost use lib.Seq.{sets};
 ghost use Rattle.header.specs.Questions.{colorChannels, blendingInfo, frameHeader, noPasses, zeroHeader};
 ghost use Rattle.header.specs.Entry.{badFacts, judged, refusedHeader, Kept, Given, Filled, Headed};
 
@@ -216,6 +218,18 @@ fn judge(n: usize, f: Facts, name: usize, upsampling: usize, blending: usize) ->
         bits::either(upsampling < extra, blending < 4 * extra),
     );
     if short { refused(3, 0) } else { accepted() }
+}
+
+// The first n words of one table at the front of another, as many as that has.
+fn put_words(from: &[u32], n: usize, out: &mut [u32])
+    requires { ⌜ n ≤ length (now from) ⌝ }
+    ensures { λ _. ⌜ now (out .exit) ≡ sets (now (out .entry)) 0 (take n (now (from .entry))) ⌝ }
+{
+    let mut i: usize = 0;
+    while i < n {
+        put(out, i, from[i]);
+        i += 1;
+    }
 }
 
 // The extra channels' words in the lent buffers: as they were kept, or read again where they are too many to keep.

@@ -7,7 +7,6 @@ mod entry;
 mod opening;
 mod parts;
 mod shape;
-mod views;
 
 pub use blending::BlendingInfo;
 pub use entry::HeaderAnswer;

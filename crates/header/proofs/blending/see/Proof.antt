@@ -1,8 +1,8 @@
 -- Nothing, or the lowest bits, cut off.
 use Rattle.header.proofs.Known.{seen-none, seen-some}
 use borrow.Author.Needs.{needs}
-use Rattle.header.proofs.views.see.Statement.{statement}
-use Rattle.header.proofs.views.see.Tie as tie
+use Rattle.header.proofs.blending.see.Statement.{statement}
+use Rattle.header.proofs.blending.see.Tie as tie
 
 returns : tie.Need-returns
 returns c = seen-none (c .before .args .w) (c .before .args .on) (c .before .args .n) (c .if1 .taken)

@@ -3,8 +3,8 @@ use Prim.Native.Nat.{_-_}
 use mathlib.Core.Path.{refl}
 use Rattle.header.proofs.Walks.{LeftWords, words-none, words-more, words-all}
 use borrow.Author.Needs.{needs}
-use Rattle.header.proofs.arrays.put_words.Statement.{statement}
-use Rattle.header.proofs.arrays.put_words.Tie as tie
+use Rattle.header.proofs.entry.put_words.Statement.{statement}
+use Rattle.header.proofs.entry.put_words.Tie as tie
 
 abbrev Inv-loop : tie.InvT-loop
 Inv-loop from n out₀ i₀ out i = LeftWords from n out₀ out i

@@ -5,8 +5,8 @@ use lib.Dec.{eqb}
 use lib.Pow.{pow-mono}
 use Rattle.header.proofs.Known.{seen-within, chosen-is}
 use borrow.Author.Needs.{needs}
-use Rattle.header.proofs.views.see_choice.Statement.{statement}
-use Rattle.header.proofs.views.see_choice.Tie as tie
+use Rattle.header.proofs.blending.see_choice.Statement.{statement}
+use Rattle.header.proofs.blending.see_choice.Tie as tie
 
 see-requires : tie.Need-see-requires
 see-requires c κs = search needs
