@@ -1,9 +1,8 @@
 -- Every refusal of a reading has a number of the rules, at most 14, and a place no further than the end. One induction for all field types and all tables.
 use Prim.Native.Nat.{ℕ, zero, suc, _+_, _-_, _*_, _/_, _%_, _^_, _≤_}
 use native.Mathlib.Omega.{arith}
-use mathlib.Core.Path.{_≡_, refl}
 use mathlib.Core.List.{List}
-use mathlib.Core.Bool.{Bool, true, false, _&&_}
+use mathlib.Core.Bool.{Bool, _&&_}
 use lib.Dec.{leb, eqb}
 use Rattle.bits.specs.declared.Refusal.{Refusal}
 use Rattle.bits.specs.declared.Cursor.{Cursor}
@@ -13,7 +12,7 @@ use Rattle.bits.specs.Bits.{bitsAt, bitCount, there}
 use Rattle.bits.specs.Half.{exponent}
 use Rattle.bits.specs.Steps.{Steps, gives, refuses, takes, passes, refusedAt, run}
 use Rattle.bits.specs.Codec.{Codec, u, bool, u32, cases, u64, f16, padding, skip, steps, chosen, more, field}
-use Rattle.bits.specs.Table.{Table, ends, row, fails, Out, failed, read, bind, within, times}
+use Rattle.bits.specs.Table.{Table, ends, row, fails, failed, read, bind, within, times}
 use Rattle.bits.specs.Extensions.{lengths, extensions}
 use Rattle.bits.proofs.Reading.{picked, field-within, failed-same}
 

@@ -1,22 +1,21 @@
 -- What holds of every reading, for all field types and all tables at once: it never moves past the end, a fault stays, what is read depends on no other bits, and the same
 -- bits at another place read the same.
-use Prim.Native.Nat.{ℕ, zero, suc, _+_, _-_, _*_, _/_, _%_, _^_, _≤_, _<_}
+use Prim.Native.Nat.{ℕ, zero, suc, _+_, _-_, _*_, _%_, _^_, _≤_, _<_}
 use native.Mathlib.Omega.{arith}
 use native.Mathlib.Nat.{le-refl, mod-add-mod}
 use mathlib.Core.Path.{_≡_, refl, sym, _∙_, ap}
 use mathlib.Core.Logic.{_⊎_, inl, inr, ⊎-elim}
 use mathlib.Core.List.{List}
-use mathlib.Core.Bool.{Bool, true, false, not, _&&_, true≢false, false≢true}
+use mathlib.Core.Bool.{Bool, true, false, _&&_, false≢true}
 use lib.Dec.{leb, eqb}
-use borrow.Author.Tests.{eqb-true, eqb-false, le-leb, lt-leb, leb-true}
+use borrow.Author.Tests.{eqb-true, eqb-false, le-leb, leb-true}
 use Rattle.bits.specs.declared.Cursor.{Cursor}
 use Rattle.bits.specs.declared.Field.{Field}
-use Rattle.bits.specs.declared.Choices.{Choices}
 use Rattle.bits.specs.Refusals.{pick, refusal, start, clear}
 use Rattle.bits.specs.Bits.{bitAt, bitsAt, bitCount, there}
 use Rattle.bits.specs.Half.{exponent}
-use Rattle.bits.specs.Steps.{Steps, gives, refuses, takes, passes, stopped, refusedAt, run}
-use Rattle.bits.specs.Codec.{Codec, u, bool, u32, cases, u64, f16, padding, skip, steps, choice, chosen, long, more, field}
+use Rattle.bits.specs.Steps.{Steps, gives, refuses, takes, passes, refusedAt, run}
+use Rattle.bits.specs.Codec.{Codec, u, bool, u32, cases, u64, f16, padding, skip, steps, chosen, more, field}
 use Rattle.bits.specs.Table.{Table, ends, row, fails, Out, failed, read}
 use Rattle.bits.proofs.Bits.{bits-lt, there-parts}
 

@@ -15,8 +15,7 @@ use Rattle.bits.specs.declared.window.Ahead.{Ahead}
 use Rattle.bits.specs.Refusals.{pick, start, clear}
 use Rattle.bits.specs.Bits.{ahead as aheadOf}
 use Rattle.bits.specs.Codec.{u, bool, u32, cases, u64, field, wideOf}
-use Rattle.bits.specs.Table.{Table, Out, ends, read, bind, times}
-use Rattle.bits.proofs.Tables.{read-bind}
+use Rattle.bits.specs.Table.{Out, ends, read, bind}
 use Rattle.bits.proofs.Reading.{field-lt}
 use Rattle.bits.proofs.Codecs.{bool-is, case-known}
 use Rattle.header.specs.declared.Facts.{Facts}

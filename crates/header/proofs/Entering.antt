@@ -2,9 +2,9 @@
 use Prim.Native.Nat.{ℕ, _*_, _≤_, _<_}
 use native.Mathlib.Omega.{arith}
 use mathlib.Core.Path.{_≡_, refl, sym, _∙_, ap}
-use mathlib.Core.Bool.{Bool, true, false, not, _&&_, _||_}
+use mathlib.Core.Bool.{Bool, true, false, _&&_, _||_}
 use mathlib.Core.List.{List, [], _∷_}
-use lib.Dec.{leb, ltb, eqb}
+use lib.Dec.{ltb, eqb}
 use lib.IntN.{ℤ}
 use lib.ListN.{length, take}
 use lib.Seq.{sets, length-sets}
@@ -16,13 +16,9 @@ use Rattle.bits.specs.declared.Field.{Field}
 use Rattle.bits.specs.Codec.{u, u32, bool, field, signed}
 use Rattle.bits.specs.Bits.{bitsAt, there}
 use Rattle.bits.specs.Steps.{refusedAt, run}
-use Rattle.bits.specs.Table.{Out, ends, read, bind}
-use Rattle.filter.specs.declared.RestorationFilter.{RestorationFilter}
-use Rattle.filter.specs.Filter.{filterDisabled}
+use Rattle.bits.specs.Table.{Out, read}
 use Rattle.header.specs.declared.Facts.{Facts}
 use Rattle.header.specs.declared.FrameHeader.{FrameHeader}
-use Rattle.header.specs.declared.opening.Opening.{Opening}
-use Rattle.header.specs.declared.shape.Crop.{Crop}
 use Rattle.header.specs.declared.blending.Blending.{Blending}
 use Rattle.header.specs.declared.blending.BlendingInfo.{BlendingInfo}
 use Rattle.types.specs.declared.BlendMode.{BlendMode}
@@ -36,10 +32,10 @@ use Rattle.header.specs.declared.entry.HeaderAnswer.{HeaderAnswer}
 use Rattle.types.specs.Types.{frameType, encoding, blendMode}
 use Rattle.header.specs.Arrays.{array, Arrayed}
 use Rattle.header.specs.Opening.{upsamplings}
-use Rattle.header.specs.Blending.{coversImage, resets, byColour, words, extras, Extras}
+use Rattle.header.specs.Blending.{coversImage, byColour, words, extras, Extras}
 use Rattle.header.specs.Header.{Header, Begun, Ended, sentUpsampling, shown, front, back, header, upsamplingFrom, blendingFrom, Fronted, Backed}
 use Rattle.header.specs.Questions.{colorChannels, blendingInfo, frameHeader, zeroHeader}
-use Rattle.header.specs.Entry.{badFacts, noRoom, judged, stands, refusalOf, refusedHeader, answered, kept, Kept, Given, Filled, Headed}
+use Rattle.header.specs.Entry.{badFacts, judged, stands, refusedHeader, answered, kept, Kept, Given, Filled, Headed}
 use Rattle.header.specs.Defaults.{Defaulted}
 use Rattle.header.proofs.Walks.{read-then, times-length, words-length, in-front}
 use Rattle.header.proofs.AllDefault.{header-off}

@@ -1,11 +1,11 @@
 -- Laws of bits that are known: what is seen of them is what a field reads.
-use Prim.Native.Nat.{ℕ, zero, suc, _+_, _-_, _*_, _/_, _%_, _^_, _≤_, _<_, min}
+use Prim.Native.Nat.{ℕ, zero, suc, _+_, _-_, _/_, _%_, _^_, _≤_, _<_, min}
 use native.Mathlib.Omega.{arith}
 use native.Mathlib.Nat.{le-refl, mod-lt, mod-eq-of-lt, lt-of-lt-of-le}
 use mathlib.Core.Path.{_≡_, refl, sym, _∙_, ap}
 use mathlib.Core.List.{List}
-use mathlib.Core.Bool.{Bool, true, false, not, _&&_, false≢true}
-use lib.Dec.{leb, eqb}
+use mathlib.Core.Bool.{Bool, true, false, not}
+use lib.Dec.{eqb}
 use lib.Pow.{pow-pos, pow-mono}
 use borrow.Author.Tests.{le-leb, eqb-true, not-true, not-false}
 use Rattle.bits.specs.declared.Choice.{Choice}
@@ -16,7 +16,7 @@ use Rattle.bits.specs.declared.window.Ahead.{Ahead}
 use Rattle.bits.specs.Refusals.{pick, start, clear}
 use Rattle.bits.specs.Bits.{bitsAt, bitCount, there, ahead}
 use Rattle.bits.specs.Steps.{run}
-use Rattle.bits.specs.Codec.{Codec, u, bool, u32, cases, field, val, plus, chosen}
+use Rattle.bits.specs.Codec.{Codec, u, u32, field, val, plus, chosen}
 use Rattle.bits.proofs.Bits.{bits-lt}
 use Rattle.bits.proofs.Windows.{low-of, high-of, whole-reaches}
 use Rattle.bits.proofs.Codecs.{u32-read}

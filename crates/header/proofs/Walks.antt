@@ -2,7 +2,6 @@
 use Prim.Native.Nat.{ℕ, zero, suc, _+_, _-_, _*_, _/_, _%_, _^_, _≤_, _<_}
 use native.Mathlib.Omega.{arith}
 use native.Mathlib.Numerals.{add-one}
-use native.Mathlib.Nat.{le-refl}
 use mathlib.Core.Path.{_≡_, refl, sym, _∙_, ap}
 use mathlib.Core.List.{List, [], _∷_, _++_, append-nil}
 use mathlib.Core.Logic.{by-cases}
@@ -19,7 +18,7 @@ use Rattle.bits.specs.Refusals.{pick, start, clear}
 use Rattle.bits.specs.Bits.{bitsAt, bitCount, there}
 use Rattle.bits.specs.Steps.{stopped, run, piece}
 use Rattle.bits.specs.Codec.{Codec, u, field}
-use Rattle.bits.specs.Table.{Table, ends, row, fails, Out, read, bind, times}
+use Rattle.bits.specs.Table.{Table, ends, Out, read, bind, times}
 use Rattle.bits.proofs.Bits.{there-parts}
 use Rattle.bits.proofs.Windows.{part-of}
 use Rattle.bits.proofs.Tables.{read-bind}

@@ -1,39 +1,34 @@
 -- The whole header: its parts one after the other, and what each leaves for its arrays.
 use Prim.Native.Nat.{ℕ, zero, suc}
 use mathlib.Core.Path.{_≡_, refl, sym, _∙_, ap}
-use mathlib.Core.Bool.{Bool, true, not, _&&_}
+use mathlib.Core.Bool.{true, not, _&&_}
 use mathlib.Core.List.{List, _∷_}
 use lib.Dec.{eqb}
 use lib.ListN.{getD}
 use Rattle.bits.specs.declared.Cursor.{Cursor}
 use Rattle.bits.specs.Refusals.{start}
 use Rattle.bits.specs.Codec.{Codec, u, u32}
-use Rattle.bits.specs.Table.{Table, Out, ends, read, bind, within, times}
+use Rattle.bits.specs.Table.{Table, Out, read, bind, within, times}
 use Rattle.bits.specs.Extensions.{extensions}
-use Rattle.bits.proofs.Tables.{read-bind, read-within}
+use Rattle.bits.proofs.Tables.{read-within}
 use Rattle.filter.specs.declared.FilterRead.{FilterRead}
 use Rattle.filter.specs.Filter.{restoration, filterRead}
 use Rattle.header.specs.declared.Facts.{Facts}
 use Rattle.header.specs.declared.opening.Opening.{Opening}
 use Rattle.header.specs.declared.opening.OpeningRead.{OpeningRead}
-use Rattle.header.specs.declared.shape.Passes.{Passes}
 use Rattle.header.specs.declared.shape.PassesRead.{PassesRead}
-use Rattle.header.specs.declared.shape.Quant.{Quant}
 use Rattle.header.specs.declared.shape.QuantRead.{QuantRead}
 use Rattle.header.specs.declared.shape.Crop.{Crop}
 use Rattle.header.specs.declared.shape.CropRead.{CropRead}
 use Rattle.header.specs.declared.blending.Blending.{Blending}
 use Rattle.header.specs.declared.blending.BlendingRead.{BlendingRead}
-use Rattle.header.specs.declared.blending.Decider.{Decider}
 use Rattle.header.specs.declared.closing.ClosingRead.{ClosingRead}
-use Rattle.header.specs.declared.parts.FrontRead.{FrontRead}
-use Rattle.header.specs.declared.parts.BackRead.{BackRead}
-use Rattle.header.specs.Arrays.{element, array, Arrayed}
+use Rattle.header.specs.Arrays.{array, Arrayed}
 use Rattle.header.specs.Opening.{opening, openingRead, upsamplings}
 use Rattle.header.specs.Shape.{passes, passesRead, quant, quantRead, crop, cropRead}
 use Rattle.header.specs.Blending.{coversImage, resets, byOwn, byColour, blending, blendingRead, extras, Extras}
 use Rattle.header.specs.Closing.{closing, closingRead}
-use Rattle.header.specs.Header.{Header, Begun, Ended, sentUpsampling, shown, front, back, header, Fronted, Backed}
+use Rattle.header.specs.Header.{Header, Begun, Ended, sentUpsampling, shown, front, back, Fronted, Backed}
 use Rattle.header.proofs.Walks.{array-any, read-then, times-first}
 
 -- a bundle inside another, then another

@@ -1,7 +1,7 @@
 -- The frame header: its fields in the file's order, and the record that is kept of them.
 use Prim.Native.Nat.{ℕ}
 use mathlib.Core.Path.{_≡_}
-use mathlib.Core.Bool.{Bool, true, false, not, _&&_, _||_}
+use mathlib.Core.Bool.{Bool, true, not, _&&_, _||_}
 use mathlib.Core.List.{List}
 use lib.Dec.{eqb}
 use lib.ListN.{getD}
@@ -9,7 +9,7 @@ use lib.Seq.{sets}
 use Rattle.bits.specs.declared.Cursor.{Cursor}
 use Rattle.bits.specs.Refusals.{pick, start}
 use Rattle.bits.specs.Codec.{u, u32}
-use Rattle.bits.specs.Table.{Table, Out, ends, bind, within, times, read}
+use Rattle.bits.specs.Table.{Table, ends, bind, within, times, read}
 use Rattle.bits.specs.Extensions.{extensions}
 use Rattle.filter.specs.Filter.{restoration}
 use Rattle.header.specs.declared.Facts.{Facts}

@@ -5,13 +5,13 @@ use native.Mathlib.Nat.{mod-le, add-zero}
 use native.Mathlib.Numerals.{add-one}
 use mathlib.Core.Path.{_≡_, refl, sym, _∙_, ap}
 use mathlib.Core.List.{List, _∷_}
-use mathlib.Core.Bool.{Bool, true, false}
+use mathlib.Core.Bool.{true}
 use lib.ListN.{length, getD, set, take}
 use lib.Dec.{eqb, lit≤}
 use Rattle.bits.specs.declared.Cursor.{Cursor}
 use Rattle.bits.specs.declared.Field.{Field}
 use Rattle.bits.specs.declared.Choice.{Choice}
-use Rattle.bits.specs.Refusals.{pick, clear}
+use Rattle.bits.specs.Refusals.{clear}
 use Rattle.bits.specs.Bits.{bitsAt, there}
 use Rattle.bits.specs.Steps.{run}
 use Rattle.bits.specs.Codec.{u32, padding, field, chosen}

@@ -1,7 +1,7 @@
 -- One call a row.
 use borrow.Author.Needs.{needs}
 use Rattle.header.specs.Blending.{blendingRead}
-use mathlib.Core.Path.{refl, sym, _∙_, ap}
+use mathlib.Core.Path.{_∙_, ap}
 use Rattle.header.proofs.Bundles.{blending-law}
 use Rattle.header.proofs.blending.read_blending_fields.Statement.{statement}
 use Rattle.header.proofs.blending.read_blending_fields.Tie as tie

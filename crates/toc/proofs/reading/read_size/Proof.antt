@@ -1,5 +1,4 @@
 -- `read_size`: passed by, cut, or one of the four choices.
-use Prim.Native.Nat.{_/_, _%_, _^_}
 use native.Mathlib.Omega.{arith}
 use mathlib.Core.Path.{_≡_, sym, ap}
 use mathlib.Core.Bool.{true}
