@@ -21,6 +21,7 @@ use Rattle.bits.specs.Half.{exponent}
 use Rattle.bits.specs.Steps.{Steps, gives, refuses, takes, stopped, refusedAt, run, piece}
 use Rattle.bits.specs.Codec.{Codec, u, bool, u32, cases, u64, f16, padding, skip, steps, field, chosen, choice, long, more, wideOf}
 use Rattle.bits.proofs.Bits.{and-right, there-parts}
+use Rattle.bits.proofs.Windows.{low-of, part-of}
 use Rattle.bits.proofs.Steps.{run-take, run-cut, run-gives, run-refuses, field-idle, field-run}
 
 -- a field of which something was read: value and cursor as they were made
@@ -71,6 +72,16 @@ module _ (s : List ℕ) (p : ℕ) (ds : Choices) (k : ℕ) (ek : k ≡ bitsAt s 
   pub u32-read : (v q : ℕ) (b : Cursor) → not r ≡ false → v ≡ (ch .base + bitsAt s (p + 2) (ch .bits)) % 2 ^ 32 → q ≡ p + 2 + ch .bits → b ≡ start q
       → _≡_ {A = Field} (record { value = v; next = b }) (run (choice ds gives) s p p)
   u32-read v q b t ev eq eb = rw (ev, eb, eq) (sym (u32-run ∙ rw (not-false r t) refl))
+
+-- a U32 out of bits that are known, at least as many as it takes
+pub u32-seen : (s : List ℕ) (q m w : ℕ) (ds : Choices) (ch : Choice) (v : ℕ) → w ≡ bitsAt s q m → q + m ≤ bitCount s → ch ≡ chosen ds (w % 2 ^ 2) → ch .bits ≤ 32 → 2 + ch .bits ≤ m
+    → v ≡ (ch .base + w / 2 ^ 2 % 2 ^ ch .bits) % 2 ^ 32 → _≡_ {A = Field} (record { value = v; next = start (q + 2 + ch .bits) }) (field s true (u32 ds) 0 (start q))
+unfolding field
+u32-seen s q m w ds ch v ew room ech narrow enough ev =
+    let selector : w % 2 ^ 2 ≡ bitsAt s q 2 = rw ew (low-of s q m 2 (omega (arith, enough))) in
+    let payload : w / 2 ^ 2 % 2 ^ ch .bits ≡ bitsAt s (q + 2) (ch .bits) = rw ew (part-of s q m 2 (ch .bits) enough) in
+    let both : (there s q 2 && there s (q + 2) (ch .bits)) ≡ true = sym (u32-narrow s q (ch .bits) narrow) ∙ le-leb (q + (ch .bits + 2)) (bitCount s) (omega (arith, room, enough)) in
+    u32-read s q ds (w % 2 ^ 2) selector ch ech true (sym both) v (q + 2 + ch .bits) (start (q + 2 + ch .bits)) refl (ev ∙ ap (λ (x : ℕ). (ch .base + x) % 2 ^ 32) payload) refl refl
 
 -- a U32 that goes on is the U32 itself, and then what follows unless it was refused
 choice-by : (ds : Choices) (f : ℕ → Steps) (s : List ℕ) (p q : ℕ) (b1 b2 : Bool) → there s q 2 ≡ b1 → there s (q + 2) (chosen ds (bitsAt s q 2) .bits) ≡ b2

@@ -83,6 +83,11 @@ module _ (s : List ℕ) (on : Bool) (k : Codec) (d : ℕ) (c : Cursor) (i : Bool
   pub field-run : i ≡ false → field s on k d c ≡ run (steps k (c .at)) s (c .at) (c .at)
   field-run = busied (on && clear c) refl
 
+  -- a field that isn't passed by counts by its place alone
+  pub field-place : i ≡ false → field s true k d (start (c .at)) ≡ field s on k d c
+  unfolding field
+  field-place t = sym (field-run t)
+
   -- passed by: the default, beside the cursor as it was
   pub field-passed : i ≡ true → (r : Cursor) → r ≡ c → _≡_ {A = Field} (record { value = d; next = r }) (field s on k d c)
   field-passed t r er = rw er (sym (field-idle t))

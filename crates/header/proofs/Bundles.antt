@@ -17,6 +17,7 @@ use Rattle.bits.specs.Bits.{ahead as aheadOf}
 use Rattle.bits.specs.Codec.{u, bool, u32, cases, u64, field, wideOf}
 use Rattle.bits.specs.Table.{Out, ends, read, bind}
 use Rattle.bits.proofs.Reading.{field-lt}
+use Rattle.bits.proofs.Steps.{field-place}
 use Rattle.bits.proofs.Codecs.{bool-is, case-known}
 use Rattle.header.specs.declared.Facts.{Facts}
 use Rattle.header.specs.declared.opening.Opening.{Opening}
@@ -34,7 +35,7 @@ use Rattle.header.specs.declared.shape.Passes.{Passes}
 use Rattle.header.specs.Arrays.{array, Arrayed}
 use Rattle.header.specs.Shape.{places, passCounts, downsamples, lastPasses, passes, quant, crop}
 use Rattle.header.proofs.Walks.{array-out, read-then, busy}
-use Rattle.header.proofs.Known.{Held, held-ahead, fieldOf, see-is, see-choice, at-place}
+use Rattle.header.proofs.Known.{Held, held-ahead, fieldOf, see-is, see-choice}
 use Rattle.header.specs.Blending.{modes, alphas, hasSource, blending}
 use Rattle.header.specs.Closing.{durations, nameLengths, closing}
 
@@ -132,7 +133,7 @@ module _ (s : List ℕ) (p : ℕ) (ahead : Ahead) (ea : ahead ≡ aheadOf s p) (
         blending-seen c on extra full d i ei go ep known two et eα' ec has eh x ex b eb =
             let stays : i ≡ false = not-true i go in
             let both = busy on (clear c) (sym ei ∙ stays) in
-            let mode : fieldOf m ≡ field s true (u32 modes) 0 c = see-choice s first true 2 8 (omega arith) held-first m em .0 ∙ rw ep (at-place s (u32 modes) 0 c (both .1)) in
+            let mode : fieldOf m ≡ field s true (u32 modes) 0 c = see-choice s first true 2 8 (omega arith) held-first m em .0 ∙ rw ep (field-place s true (u32 modes) 0 c i (rw (both .0) at ei) stays) in
             rw eb (blending-law s c on extra full d (fieldOf m) (fieldOf a) (fieldOf k) (fieldOf x) has
             (case-known s on modes 5 0 c i ei stays (fieldOf m) mode refl known)
             (see-choice s (m .rest) alpha 3 3 (omega arith) held-mode a eα .0 ∙ rw (eα', et))

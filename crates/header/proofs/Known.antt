@@ -1,7 +1,7 @@
 -- Laws of bits that are known: what is seen of them is what a field reads.
 use Prim.Native.Nat.{ℕ, zero, suc, _+_, _-_, _/_, _%_, _^_, _≤_, _<_, min}
 use native.Mathlib.Omega.{arith}
-use native.Mathlib.Nat.{le-refl, mod-lt, mod-eq-of-lt, lt-of-lt-of-le}
+use native.Mathlib.Nat.{le-refl, mod-lt, mod-one, mod-eq-of-lt, lt-of-lt-of-le}
 use mathlib.Core.Path.{_≡_, refl, sym, _∙_, ap}
 use mathlib.Core.List.{List}
 use mathlib.Core.Bool.{Bool, true, false, not}
@@ -19,7 +19,7 @@ use Rattle.bits.specs.Steps.{run}
 use Rattle.bits.specs.Codec.{Codec, u, u32, field, val, plus, chosen}
 use Rattle.bits.proofs.Bits.{bits-lt}
 use Rattle.bits.proofs.Windows.{low-of, high-of, whole-reaches}
-use Rattle.bits.proofs.Codecs.{u32-read}
+use Rattle.bits.proofs.Codecs.{u32-seen}
 use Rattle.header.specs.declared.blending.View.{View}
 use Rattle.header.specs.declared.blending.Seen.{Seen}
 use Rattle.header.specs.Known.{seen, seenChoice}
@@ -113,17 +113,10 @@ module _ (s : List ℕ) (w : View) (n m : ℕ) (low : n ≤ 8) (held : Held s w 
   behind : View
   behind = record { bits = w .bits / 2 ^ 2; at = w .at + 2 }
 
-  selected : w .bits % 2 ^ 2 ≡ bitsAt s (w .at) 2
-  selected = rw (held .bits) (low-of s (w .at) (held .count) 2 (omega (arith, held .enough)))
-
   -- one of the choices, there
-  choice-read : (ch : Choice) → ch ≡ chosen (small n) (w .bits % 2 ^ 2) → ch .bits ≤ n → (v : ℕ) → v ≡ (ch .base + bitsAt s (w .at + 2) (ch .bits)) % 2 ^ 32
+  choice-read : (ch : Choice) → ch ≡ chosen (small n) (w .bits % 2 ^ 2) → ch .bits ≤ n → (v : ℕ) → v ≡ (ch .base + w .bits / 2 ^ 2 % 2 ^ ch .bits) % 2 ^ 32
       → _≡_ {A = Field} (record { value = v; next = start (w .at + 2 + ch .bits) }) (field s true (u32 (small n)) 0 (start (w .at)))
-  unfolding field
-  choice-read ch ech hb v ev =
-      let two : there s (w .at) 2 ≡ true = le-leb (w .at + 2) (bitCount s) (omega (arith, held .room, held .enough)) in
-      let rest : there s (w .at + 2) (ch .bits) ≡ true = rw (le-leb (ch .bits) 32 (omega (arith, hb, low))) (le-leb (w .at + 2 + ch .bits) (bitCount s) (omega (arith, held .room, held .enough, hb))) in
-      u32-read s (w .at) (small n) (w .bits % 2 ^ 2) selected ch ech true (rw (two, rest) refl) v (w .at + 2 + ch .bits) (start (w .at + 2 + ch .bits)) refl ev refl refl
+  choice-read ch ech hb v ev = u32-seen s (w .at) (held .count) (w .bits) (small n) ch v (held .bits) (held .room) ech (omega (arith, hb, low)) (omega (arith, hb, held .enough)) ev
 
   held-behind : Held s behind (n + m)
   unfolding behind seen
@@ -132,29 +125,27 @@ module _ (s : List ℕ) (w : View) (n m : ℕ) (low : n ≤ 8) (held : Held s w 
   choice-by : (t : Bool) → eqb (w .bits % 2 ^ 2) 3 ≡ t
       → (_≡_ {A = Field} (record { value = w .bits % 2 ^ 2 + seen behind t n .value; next = start (seen behind t n .rest .at) }) (field s true (u32 (small n)) 0 (start (w .at))))
       × Held s (seen behind t n .rest) m
-  unfolding behind bitsAt seen
+  unfolding behind seen
   choice-by false et =
       let k = w .bits % 2 ^ 2 in
-      let k< : k < 4 = rw selected (bits-lt s (w .at) 2) in
+      let k< : k < 4 = mod-lt (w .bits) (pow-pos 2) in
       let ech = ap (λ (b : Bool). pick b (plus 3 n) (val k)) (sym et) ∙ small-chosen n k k< in
       let none : w .at + 2 ≡ w .at + 2 + 0 = omega arith in
       let below : k + 0 < 2 ^ 32 = omega (arith, k<) in
       let h = held-behind in (
-        ap (λ (q : ℕ). record { value = k + 0; next = start q }) none ∙ choice-read (val k) ech (omega arith) (k + 0) (sym (mod-eq-of-lt below)),
+        ap (λ (q : ℕ). record { value = k + 0; next = start q }) none
+            ∙ choice-read (val k) ech (omega arith) (k + 0) (sym (mod-eq-of-lt below) ∙ ap (λ (y : ℕ). (k + y) % 2 ^ 32) (sym (mod-one (w .bits / 2 ^ 2)))),
         record { count = h .count; enough = omega (arith, h .enough); bits = h .bits; room = h .room },
       )
   choice-by true et =
       let k = w .bits % 2 ^ 2 in
       let k3 : k ≡ 3 = eqb-true k 3 et in
-      let k< : k < 4 = omega (arith, k3) in
-      let ech = ap (λ (b : Bool). pick b (plus 3 n) (val k)) (sym et) ∙ small-chosen n k k< in
-      let h = held-behind in
-      let x = behind .bits % 2 ^ n in
-      let is : x ≡ bitsAt s (w .at + 2) n = rw (h .bits) (low-of s (w .at + 2) (h .count) n (omega (arith, h .enough))) in
-      let small : x < 2 ^ 8 = rw is (lt-of-lt-of-le (bits-lt s (w .at + 2) n) (pow-mono {i = n} {j = 8} low)) in
-      let below : 3 + x < 2 ^ 32 = omega (arith, small) in (
-        choice-read (plus 3 n) ech (omega arith) (k + x) (ap (λ (y : ℕ). y + x) k3 ∙ sym (mod-eq-of-lt below) ∙ ap (λ (y : ℕ). (3 + y) % 2 ^ 32) is),
-        see-by s behind true n m (omega (arith, low)) h .1,
+      let ech = ap (λ (b : Bool). pick b (plus 3 n) (val k)) (sym et) ∙ small-chosen n k (omega (arith, k3)) in
+      let x = w .bits / 2 ^ 2 % 2 ^ n in
+      let few : x < 2 ^ 8 = lt-of-lt-of-le (mod-lt (w .bits / 2 ^ 2) (pow-pos n)) (pow-mono {i = n} {j = 8} low) in
+      let below : 3 + x < 2 ^ 32 = omega (arith, few) in (
+        choice-read (plus 3 n) ech (omega arith) (k + x) (ap (λ (y : ℕ). y + x) k3 ∙ sym (mod-eq-of-lt below)),
+        see-by s behind true n m (omega (arith, low)) held-behind .1,
       )
 
 -- the U32, where it is asked for
@@ -167,8 +158,3 @@ choice-seen s w true n m low k = choice-by s w n m low k (eqb (w .bits % 2 ^ 2) 
 pub see-choice : (s : List ℕ) (w : View) (on : Bool) (n m : ℕ) → n ≤ 8 → Held s w (2 + (n + m)) → (r : Seen) → r ≡ seenChoice w on n
     → (fieldOf r ≡ field s on (u32 (small n)) 0 (start (w .at))) × Held s (r .rest) m
 see-choice s w on n m low k r e = rw e (choice-seen s w on n m low k)
-
--- a cursor with no fault counts by its place alone
-pub at-place : (s : List ℕ) (k : Codec) (d : ℕ) (c : Cursor) → clear c ≡ true → field s true k d (start (c .at)) ≡ field s true k d c
-unfolding field
-at-place s k d c ok = rw ok

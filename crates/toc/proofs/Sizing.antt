@@ -1,81 +1,116 @@
--- Laws of one size out of the bits ahead of it.
-use Prim.Native.Nat.{ℕ, zero, suc, _+_, _*_, _/_, _%_, _^_, _≤_, _<_, min}
+-- Laws of sizes out of bits that are known.
+use Prim.Native.Nat.{ℕ, zero, suc, _+_, _-_, _*_, _/_, _%_, _^_, _≤_, _<_, min}
 use native.Mathlib.Omega.{arith}
-use native.Mathlib.Nat.{mod-lt, mod-eq-of-lt, lt-of-lt-of-le}
+use native.Mathlib.Nat.{mod-lt, mod-eq-of-lt}
 use mathlib.Core.Path.{_≡_, refl, sym, _∙_, ap}
 use mathlib.Core.List.{List}
 use mathlib.Core.Bool.{Bool, true, false, not, _&&_}
 use lib.Dec.{leb, eqb, lit≤}
-use lib.Pow.{pow-pos, pow-mono}
-use borrow.Author.Tests.{leb-true, not-false}
+use lib.Pow.{pow-pos}
+use borrow.Author.Tests.{leb-true, not-false, ne-eqb}
 use Rattle.bits.specs.declared.Choice.{Choice}
 use Rattle.bits.specs.declared.Cursor.{Cursor}
 use Rattle.bits.specs.declared.Field.{Field}
 use Rattle.bits.specs.declared.window.Ahead.{Ahead}
 use Rattle.bits.specs.Refusals.{start, clear}
-use Rattle.bits.specs.Bits.{bitsAt, bitCount, there, ahead}
-use Rattle.bits.specs.Steps.{refusedAt}
+use Rattle.bits.specs.Bits.{bitsAt, bitCount, ahead}
 use Rattle.bits.specs.Codec.{u32, chosen, field}
+use Rattle.bits.proofs.Bits.{and-left, and-right}
 use Rattle.bits.proofs.Numbered.{of-both}
-use Rattle.bits.proofs.Windows.{peeked, peeked-after}
-use Rattle.bits.proofs.Codecs.{u32-narrow, u32-cut, u32-read}
-use Rattle.bits.proofs.Steps.{field-run}
+use Rattle.bits.proofs.Windows.{high-of, whole-reaches}
+use Rattle.bits.proofs.Codecs.{u32-seen}
+use Rattle.bits.proofs.Steps.{field-place}
+use Rattle.toc.specs.declared.reading.Sized.{Sized}
+use Rattle.toc.specs.declared.reading.Pair.{Pair}
 use Rattle.toc.specs.Sizes.{sizeChoices}
+use Rattle.toc.specs.Walks.{sizeIn, Two}
 use Rattle.toc.proofs.Walking.{choice-small}
 
 -- four bytes of one number are the four widths
-pub size-widths : (k : ℕ) → k < 4 → 504761866 / 2 ^ (8 * k) % 2 ^ 8 ≡ chosen sizeChoices k .bits
+pub size-widths : (k : ℕ) → k < 4 → 538447884 / 2 ^ (8 * k) % 2 ^ 8 ≡ 2 + chosen sizeChoices k .bits
 size-widths zero h = refl
 size-widths (suc zero) h = refl
 size-widths (suc (suc zero)) h = refl
 size-widths (suc (suc (suc zero))) h = refl
 size-widths (suc (suc (suc (suc k)))) h = absurd (omega (arith, h))
 
+-- the last choice is that of every other selector
+pub last-base : (k : ℕ) → (k ≡ 0 → ⊥) → (k ≡ 1 → ⊥) → (k ≡ 2 → ⊥) → 4211712 ≡ chosen sizeChoices k .base
+last-base k a b c = rw (ne-eqb k 0 a, ne-eqb k 1 b, ne-eqb k 2 c) refl
+
 pub size-narrow : (k : ℕ) → chosen sizeChoices k .bits ≤ 30
 size-narrow k =
     let narrow : Choice → Type 0 = λ c. c .bits ≤ 30 in
     of-both narrow (eqb k 0) _ _ (lit≤ tt) (of-both narrow (eqb k 1) _ _ (lit≤ tt) (of-both narrow (eqb k 2) _ _ (lit≤ tt) (lit≤ tt)))
 
--- the lowest n bits, n at most 30
-module _ (w n v : ℕ) (low : n ≤ 30) (e : v ≡ w % 2 ^ min n 32) where
-  pub cut-off : v ≡ w % 2 ^ n
-  cut-off =
-      let all : min n 32 ≡ n = omega arith in
-      e ∙ ap (λ (m : ℕ). w % 2 ^ m) all
+-- a size as it is put together: its selector, its width, its base and the bits between
+module _ (w k n b v : ℕ) (ek : k ≡ w % 4) (en : n ≡ 2 + chosen sizeChoices k .bits) (eb : b ≡ chosen sizeChoices k .base) (ev : v ≡ w / 4 % 2 ^ min (n - 2) 32) where
+  between : v ≡ w / 4 % 2 ^ chosen sizeChoices k .bits
+  between =
+      let few : min (n - 2) 32 ≡ chosen sizeChoices k .bits = omega (arith, en, size-narrow k) in
+      ev ∙ ap (λ (m : ℕ). w / 4 % 2 ^ m) few
 
-  pub cut-below : v < 2 ^ 30
-  cut-below = rw cut-off (lt-of-lt-of-le (mod-lt w (pow-pos n)) (pow-mono {i = n} {j = 30} low))
+  pub sized-fits : b + v < 2 ^ 32
+  sized-fits = omega (arith, eb, choice-small k, rw (← between) at (mod-lt (w / 4) (pow-pos (chosen sizeChoices k .bits))))
 
--- a size that isn't passed by: its selector, its width, and whether both are there
-module _ (s : List ℕ) (c : Cursor) (i : Bool) (e : i ≡ not (true && clear c)) (busy : i ≡ false) (a : Ahead) (ea : a ≡ ahead s (c .at)) (k : ℕ) (ek : k ≡ a .bits % 2 ^ min 2 32) (n : ℕ)
-    (en : n ≡ chosen sizeChoices k .bits) (t : Bool) (et : t ≡ leb (c .at + (n + 2)) (bitCount s))
+  pub sized-is : _≡_ {A = Sized} (record { value = b + v; width = n }) (sizeIn w)
+  unfolding sizeIn
+  sized-is = rw (between, eb, en, ek) refl
+
+pub sized-narrow : (w : ℕ) (z : Sized) → z ≡ sizeIn w → z .width ≤ 32
+unfolding sizeIn
+sized-narrow w z e = rw e (omega (arith, size-narrow (w % 4)))
+
+-- the size out of m bits that are known and there is the field that begins with them
+pub sized-read : (s : List ℕ) (q m w : ℕ) (z : Sized) → w ≡ bitsAt s q m → q + m ≤ bitCount s → z ≡ sizeIn w → z .width ≤ m
+    → _≡_ {A = Field} (record { value = z .value; next = start (q + z .width) }) (field s true (u32 sizeChoices) 0 (start q))
+unfolding sizeIn
+sized-read s q m w z ew room ez enough =
+    let ch : Choice = chosen sizeChoices (w % 4) in
+    let width : z .width ≡ 2 + ch .bits = ap (λ (y : Sized). y .width) ez in
+    let value : z .value ≡ ch .base + w / 4 % 2 ^ ch .bits = ap (λ (y : Sized). y .value) ez in
+    let below : z .value < 2 ^ 32 = omega (arith, value, choice-small (w % 4), mod-lt (w / 4) (pow-pos (ch .bits))) in
+    let place : q + z .width ≡ q + 2 + ch .bits = omega (arith, width) in
+    ap (λ (p : ℕ). record { value = z .value; next = start p }) place
+    ∙ u32-seen s q m w sizeChoices ch (z .value) ew room refl (omega (arith, size-narrow (w % 4))) (omega (arith, width, enough)) (sym (mod-eq-of-lt below) ∙ ap (λ (x : ℕ). x % 2 ^ 32) value)
+
+-- two sizes out of one look ahead
+module _ (s : List ℕ) (c : Cursor) (a : Ahead) (ea : a ≡ ahead s (c .at)) (x y : Sized) (ex : x ≡ sizeIn (a .bits)) (ey : y ≡ sizeIn (a .bits / 2 ^ x .width)) (on held b i : Bool)
+    (eh : held ≡ (a .whole && leb (x .width + y .width) 56)) (eb : b ≡ (on && held)) (ei : i ≡ not (b && clear c)) (go : i ≡ false)
   where
-    selector : k ≡ bitsAt s (c .at) 2
-    selector = peeked s (c .at) 2 (a .bits) k (omega arith) (ap (λ (x : Ahead). x .bits) ea) ek
+    stands : (b && clear c) ≡ true
+    stands = not-false (b && clear c) (sym ei ∙ go)
 
-    is-there : t ≡ (there s (c .at) 2 && there s (c .at + 2) (chosen sizeChoices k .bits))
-    is-there = et ∙ ap (λ (m : ℕ). leb (c .at + (m + 2)) (bitCount s)) en ∙ u32-narrow s (c .at) (chosen sizeChoices k .bits) (omega (arith, size-narrow k))
+    asked : (on && held) ≡ true
+    asked = sym eb ∙ and-left b (clear c) stands
 
-    pub size-cut : not t ≡ true → (r : Field) → r ≡ refusedAt 4 (c .at) → r ≡ field s true (u32 sizeChoices) 0 c
-    size-cut h r er = er ∙ u32-cut s (c .at) sizeChoices k selector (chosen sizeChoices k) refl t is-there h ∙ sym (field-run s true (u32 sizeChoices) 0 c i e busy)
+    inside : (a .whole && leb (x .width + y .width) 56) ≡ true
+    inside = sym eh ∙ and-right on held asked
 
-    -- it lies in the first 16,777,216 bytes
-    pub size-place : not t ≡ false → c .at < 2 ^ 32
-    size-place h = omega (arith, leb-true (c .at + (n + 2)) (bitCount s) (sym et ∙ not-false t h))
+    room : c .at + 56 ≤ bitCount s
+    room = whole-reaches s (c .at) 56 (a .whole) (ap (λ (z : Ahead). z .whole) ea) (and-left (a .whole) (leb (x .width + y .width) 56) inside) (omega arith)
 
-    pub size-read : not t ≡ false → (ch : Choice) → ch ≡ chosen sizeChoices k → (r : Field)
-        → r ≡ record { value = ch .base + a .bits / 4 % 2 ^ ch .bits; next = start (c .at + 2 + ch .bits) } → r ≡ field s true (u32 sizeChoices) 0 c
-    size-read h ch ech r er =
-        let narrow : ch .bits ≤ 30 = rw ech (size-narrow k) in
-        let small : ch .base + 2 ^ ch .bits ≤ 1077953536 = rw ech (choice-small k) in
-        let x : ℕ = a .bits / 4 % 2 ^ ch .bits in
-        let all : ch .bits ≡ min (ch .bits) 32 = omega arith in
-        let is : x ≡ bitsAt s (c .at + 2) (ch .bits) =
-        peeked-after s (c .at) 2 (ch .bits) (a .bits) x (omega arith) (omega arith) (ap (λ (y : Ahead). y .bits) ea) (ap (λ (m : ℕ). a .bits / 4 % 2 ^ m) all) in
-        let below : ch .base + x < 2 ^ 32 = omega (arith, small, mod-lt (a .bits / 4) (pow-pos (ch .bits))) in
-        er
-        ∙ u32-read s (c .at) sizeChoices k selector ch ech t (is-there ∙ rw (← ech)) (ch .base + x) (c .at + 2 + ch .bits) (start (c .at + 2 + ch .bits)) h
-        (sym (mod-eq-of-lt below) ∙ ap (λ (y : ℕ). (ch .base + y) % 2 ^ 32) is)
-        refl
-        refl
-        ∙ sym (field-run s true (u32 sizeChoices) 0 c i e busy)
+    fits : x .width + y .width ≤ 56
+    fits = leb-true (x .width + y .width) 56 (and-right (a .whole) (leb (x .width + y .width) 56) inside)
+
+    pub pair-place : c .at + (x .width + y .width) < 2 ^ 64
+    pair-place = omega (arith, room, fits)
+
+    pub pair-two : (p : Pair) → p ≡ record { there = true; first = x .value; second = y .value; at = c .at + (x .width + y .width) } → Two s c on p
+    unfolding ahead
+    pair-two p ep =
+        let known : a .bits ≡ bitsAt s (c .at) 56 = ap (λ (z : Ahead). z .bits) ea in
+        let behind : a .bits / 2 ^ x .width ≡ bitsAt s (c .at + x .width) (56 - x .width) = rw known (high-of s (c .at) 56 (x .width) (omega (arith, fits))) in
+        let live : true ≡ (on && held) = sym asked in
+        let busy : i ≡ not (true && clear c) = ei ∙ ap (λ (z : Bool). not (z && clear c)) (and-left b (clear c) stands) in
+        let one : _≡_ {A = Field} (record { value = x .value; next = start (c .at + x .width) }) (field s true (u32 sizeChoices) 0 c) =
+        sized-read s (c .at) 56 (a .bits) x known room ex (omega (arith, fits)) ∙ field-place s true (u32 sizeChoices) 0 c i busy go in
+        let two : _≡_ {A = Field} (record { value = y .value; next = start (c .at + x .width + y .width) }) (field s true (u32 sizeChoices) 0 (start (c .at + x .width))) =
+        sized-read s (c .at + x .width) (56 - x .width) (a .bits / 2 ^ x .width) y behind (omega (arith, room, fits)) ey (omega (arith, fits)) in
+        let place : c .at + (x .width + y .width) ≡ c .at + x .width + y .width = omega arith in
+        rw ep
+        (record {
+          wanted = and-left on held asked;
+          first = ap (λ (f : Field). f .value) one;
+          second = ap (λ (q : ℕ). record { value = y .value; next = start q }) place ∙ two ∙ ap (λ (f : Field). field s true (u32 sizeChoices) 0 (f .next)) one;
+        })

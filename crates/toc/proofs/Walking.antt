@@ -5,13 +5,13 @@ use native.Mathlib.Nat.{mod-le, add-zero}
 use native.Mathlib.Numerals.{add-one}
 use mathlib.Core.Path.{_≡_, refl, sym, _∙_, ap}
 use mathlib.Core.List.{List, _∷_}
-use mathlib.Core.Bool.{true}
+use mathlib.Core.Bool.{Bool, true}
 use lib.ListN.{length, getD, set, take}
 use lib.Dec.{eqb, lit≤}
 use Rattle.bits.specs.declared.Cursor.{Cursor}
 use Rattle.bits.specs.declared.Field.{Field}
 use Rattle.bits.specs.declared.Choice.{Choice}
-use Rattle.bits.specs.Refusals.{clear}
+use Rattle.bits.specs.Refusals.{clear, start as startAt}
 use Rattle.bits.specs.Bits.{bitsAt, there}
 use Rattle.bits.specs.Steps.{run}
 use Rattle.bits.specs.Codec.{u32, padding, field, chosen}
@@ -23,9 +23,10 @@ use Rattle.order.specs.Tables.{tabulate}
 use Rattle.order.specs.Sums.{sumTo}
 use Rattle.order.proofs.Tables.{tabulate-ext}
 use Rattle.order.proofs.Placed.{Placing, placing-more}
+use Rattle.toc.specs.declared.reading.Pair.{Pair}
 use Rattle.toc.specs.declared.reading.Walk.{Walk}
 use Rattle.toc.specs.Sizes.{sizeChoices, sizeRow, sizeRows}
-use Rattle.toc.specs.Walks.{cursorAt, sizeAt, offsetAt, padded, walked}
+use Rattle.toc.specs.Walks.{cursorAt, sizeAt, offsetAt, Two, padded, walked}
 
 -- a size is below 4211712 + 2^30
 pub choice-small : (k : ℕ) → chosen sizeChoices k .base + 2 ^ chosen sizeChoices k .bits ≤ 1077953536
@@ -83,6 +84,34 @@ module _ (s : List ℕ) (first : Cursor) (start : ℕ) (at : Cursor) (k sum : �
   unfolding offsetAt
   walking-fits h l = omega (arith, w .total, walking-size, size-small s first k, sum-small s first k)
 
+-- two sizes that were read at once are two turns
+module _ (s : List ℕ) (first : Cursor) (start : ℕ) (at : Cursor) (k sum : ℕ) (w : Walking s first start at k sum) (on : Bool) (p : Pair) (t : Two s at on p) where
+  abbrev one : Field
+  one = field s true (u32 sizeChoices) 0 at
+
+  abbrev other : Field
+  other = record { value = p .second; next = startAt (p .at) }
+
+  pub pair-between : Walking s first start (one .next) (k + 1) (sum + p .first)
+  pair-between = rw (t .first) (walking-more s first start at k sum w one refl)
+
+  pub pair-first : p .first ≡ sizeAt s first k
+  pair-first = t .first ∙ walking-size s first start at k sum w one refl
+
+  pub pair-second : p .second ≡ sizeAt s first (k + 1)
+  pair-second = walking-size s first start (one .next) (k + 1) (sum + p .first) pair-between other (t .second)
+
+  pub pair-first-fits : start ≤ 2305843009213693952 → k < 4294967296 → sum + p .first < 2 ^ 64
+  pair-first-fits h l = rw (t .first) (walking-fits s first start at k sum w one refl h l)
+
+  pub pair-second-fits : start ≤ 2305843009213693952 → k + 1 < 4294967296 → sum + p .first + p .second < 2 ^ 64
+  pair-second-fits h l = walking-fits s first start (one .next) (k + 1) (sum + p .first) pair-between other (t .second) h l
+
+  pub pair-more : (b : Cursor) → b ≡ startAt (p .at) → Walking s first start b (k + 2) (sum + p .first + p .second)
+  pair-more b eb =
+      let turns : k + 1 + 1 ≡ k + 2 = omega arith in
+      rw (eb, ← turns) (walking-more s first start (one .next) (k + 1) (sum + p .first) pair-between other (t .second))
+
 -- a turn that fills: the offset and the size of number k are written at its section
 module _ (s : List ℕ) (first : Cursor) (start : ℕ) (l : List ℕ) (count k : ℕ) (low : k < count) (there : k < length l) (before table next : List ℕ) (v : ℕ) (e : next ≡ set table (getD l k 0) v) where
   pub offsets-more : v ≡ offsetAt s first start k → Placing (offsetAt s first start) (take count l) before table k
@@ -92,6 +121,23 @@ module _ (s : List ℕ) (first : Cursor) (start : ℕ) (l : List ℕ) (count k :
   pub sizes-more : v ≡ sizeAt s first k → Placing (sizeAt s first) (take count l) before table k
       → Placing (sizeAt s first) (take count l) before next (k + 1)
   sizes-more ev p = placing-more (sizeAt s first) l count before table k p next low there (e ∙ ap (set table (getD l k 0)) ev)
+
+-- two such turns at once
+module _ (s : List ℕ) (first : Cursor) (start : ℕ) (l : List ℕ) (count k : ℕ) (low : k + 1 < count) (there : k + 1 < length l) (before table t1 t2 : List ℕ) (v1 v2 : ℕ)
+    (e1 : t1 ≡ set table (getD l k 0) v1) (e2 : t2 ≡ set t1 (getD l (k + 1) 0) v2)
+  where
+    turns : k + 1 + 1 ≡ k + 2
+    turns = omega arith
+
+    pub offsets-two : v1 ≡ offsetAt s first start k → v2 ≡ offsetAt s first start (k + 1) → Placing (offsetAt s first start) (take count l) before table k
+        → Placing (offsetAt s first start) (take count l) before t2 (k + 2)
+    offsets-two a b p =
+        rw (← turns) (offsets-more s first start l count (k + 1) low there before t1 t2 v2 e2 b (offsets-more s first start l count k (omega arith) (omega arith) before table t1 v1 e1 a p))
+
+    pub sizes-two : v1 ≡ sizeAt s first k → v2 ≡ sizeAt s first (k + 1) → Placing (sizeAt s first) (take count l) before table k
+        → Placing (sizeAt s first) (take count l) before t2 (k + 2)
+    sizes-two a b p =
+        rw (← turns) (sizes-more s first start l count (k + 1) low there before t1 t2 v2 e2 b (sizes-more s first start l count k (omega arith) (omega arith) before table t1 v1 e1 a p))
 
 -- what the walk that judges comes to
 pub walk-done : (s : List ℕ) (c : Cursor) (count : ℕ) (first at last : Cursor) (k total : ℕ) → first ≡ padded s c → k ≤ count → count ≤ k → Walking s first 0 at k total

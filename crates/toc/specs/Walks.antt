@@ -1,10 +1,16 @@
 -- The walk over the sizes, one by one: what the private functions of the walk promise. That it is the table's own reading is a law.
-use Prim.Native.Nat.{ℕ, zero, suc, _+_}
+use Prim.Native.Nat.{ℕ, zero, suc, _+_, _/_, _%_, _^_}
+use mathlib.Core.Path.{_≡_}
 use mathlib.Core.List.{List}
-use mathlib.Core.Bool.{true}
+use mathlib.Core.Bool.{Bool, true}
+use Rattle.bits.specs.declared.Choice.{Choice}
 use Rattle.bits.specs.declared.Cursor.{Cursor}
-use Rattle.bits.specs.Codec.{u32, padding, field}
+use Rattle.bits.specs.declared.Field.{Field}
+use Rattle.bits.specs.Refusals.{start}
+use Rattle.bits.specs.Codec.{u32, padding, chosen, field}
 use Rattle.order.specs.Sums.{sumTo}
+use Rattle.toc.specs.declared.reading.Sized.{Sized}
+use Rattle.toc.specs.declared.reading.Pair.{Pair}
 use Rattle.toc.specs.declared.reading.Walk.{Walk}
 use Rattle.toc.specs.Sizes.{sizeChoices}
 
@@ -20,6 +26,18 @@ sizeAt s c k = field s true (u32 sizeChoices) 0 (cursorAt s c k) .value
 -- where the data of number k begins
 unfoldable pub offsetAt : List ℕ → Cursor → ℕ → ℕ → ℕ
 offsetAt s c start k = start + sumTo k (sizeAt s c)
+
+-- the size that begins at the lowest of bits that are known, and how many it takes
+unfoldable pub sizeIn : ℕ → Sized
+sizeIn w =
+    let ch : Choice = chosen sizeChoices (w % 4) in
+    record { value = ch .base + w / 4 % 2 ^ ch .bits; width = 2 + ch .bits }
+
+-- two sizes that were read at once: those that are read one after the other
+pub record Two (s : List ℕ) (c : Cursor) (on : Bool) (p : Pair) : Type 0 where
+  pub wanted : on ≡ true
+  pub first : p .first ≡ field s true (u32 sizeChoices) 0 c .value
+  pub second : _≡_ {A = Field} (record { value = p .second; next = start (p .at) }) (field s true (u32 sizeChoices) 0 (field s true (u32 sizeChoices) 0 c .next))
 
 -- to the next byte boundary
 abbrev pub padded : List ℕ → Cursor → Cursor

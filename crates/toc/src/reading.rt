@@ -2,6 +2,8 @@
 // the order that a flag of 1 asks for, and goes on at the padding. Nothing is written before the whole table is known to be good.
 use crate::Toc;
 use crate::TocRead;
+use bits::Choice;
+use bits::Choices;
 use bits::Cursor;
 use bits::Field;
 use bits::Refusal;
@@ -9,16 +11,13 @@ use grid::Frame;
 use grid::Grid;
 ghost use mathlib.Core.Path.{_≡_};
 ghost use Rattle.toc.specs.Reading.{Done, tables, roomFor, judgedBy, firstReading, secondReading};
-ghost use mathlib.Core.Bool.{true};
-ghost use Prim.Native.Nat.{_+_, _/_, _%_, _^_, _≤_, _<_};
-ghost use lib.Dec.{leb};
+ghost use mathlib.Core.Bool.{true, false};
+ghost use Prim.Native.Nat.{_+_, _≤_, _<_};
 ghost use lib.ListN.{length, set, take};
-ghost use Rattle.bits.specs.Refusals.{start};
-ghost use Rattle.bits.specs.Bits.{bitCount, ahead};
 ghost use Rattle.bits.specs.Codec.{u32, chosen, field};
 ghost use Rattle.order.specs.Tables.{placedBy};
 ghost use Rattle.toc.specs.Sizes.{sizeChoices};
-ghost use Rattle.toc.specs.Walks.{walked, sizeAt, offsetAt};
+ghost use Rattle.toc.specs.Walks.{walked, sizeAt, offsetAt, sizeIn, Two};
 
 // Whether each of four tables has a word for each section.
 fn has_room(count: u32, offsets: usize, sizes: usize, order: usize, inverse: usize) -> bool
@@ -58,65 +57,99 @@ struct Walk {
     total: u64,
 }
 
-// How many bits follow a size's selector: 10, 14, 22 or 30, a byte each in one number.
-fn size_bits(k: u32) -> u32
-    requires { ⌜ k < 4 ⌝ }
-    ensures { λ r. ⌜ r ≡ chosen sizeChoices k .bits ⌝ }
-{
-    let widths: u32 = 504761866;
-    (widths >> (8 * k)) & 255
-}
-
-// Whether a selector is there from p on, and n bits after it, given whether eight bytes are.
-fn size_is_there(s: &[u8], p: u64, n: u32, whole: bool) -> bool
-    requires { ⌜ (n ≤ 32) × (whole ≡ ahead (now s) p .whole) ⌝ }
-    ensures { λ r. ⌜ r ≡ leb (p + (n + 2)) (bitCount (now (s .entry))) ⌝ }
-{
-    if whole {
-        true
-    } else {
-        bits::reaches(s, p, n + 2)
-    }
-}
-
-// A size of n bits behind the selector at p, out of the bits ahead of p.
-fn size_of(ahead: u64, p: u64, base: u32, n: u32) -> Field
-    requires { ⌜ (n ≤ 30) × (base < 2 ^ 31) × (p < 2 ^ 32) ⌝ }
-    ensures { λ r. ⌜ r ≡ record { value = base + ahead / 4 % 2 ^ n; next = start (p + 2 + n) } ⌝ }
-{
-    Field {
-        value: base + bits::low_bits(ahead >> 2, n),
-        next: bits::begin(p + 2 + (n as u64)),
-    }
-}
-
-// One size: U32(u(10), 1024 + u(14), 17408 + u(22), 4211712 + u(30)). Each choice goes its own way, so that the place of the next size
-// doesn't wait for this one's bits.
+// One size: U32(u(10), 1024 + u(14), 17408 + u(22), 4211712 + u(30)).
 fn read_size(s: &[u8], c: Cursor) -> Field
     ensures { λ r. ⌜ r ≡ field (now (s .entry)) true (u32 sizeChoices) 0 c ⌝ }
 {
-    if bits::idle(c, true) {
-        return Field {
-            value: 0,
-            next: bits::kept(c),
-        };
-    }
-    let at = c.at;
-    let a = bits::look_ahead(s, at);
-    let k = bits::low_bits(a.bits, 2);
-    if !size_is_there(s, at, size_bits(k), a.whole) {
-        return bits::refused_at(4, at);
-    }
+    let d = Choices {
+        d0: Choice { base: 0, bits: 10 },
+        d1: Choice {
+            base: 1024,
+            bits: 14,
+        },
+        d2: Choice {
+            base: 17408,
+            bits: 22,
+        },
+        d3: Choice {
+            base: 4211712,
+            bits: 30,
+        },
+    };
+    numbers::read_u32(s, c, d)
+}
+
+// How many bits a size takes by its selector, which counts: 12, 16, 24 or 32, a byte each in one number.
+fn size_width(k: u32) -> u32
+    requires { ⌜ k < 4 ⌝ }
+    ensures { λ r. ⌜ r ≡ 2 + chosen sizeChoices k .bits ⌝ }
+{
+    let widths: u32 = 538447884;
+    (widths >> (8 * k)) & 255
+}
+
+fn size_base(k: u32) -> u32
+    ensures { λ r. ⌜ r ≡ chosen sizeChoices k .base ⌝ }
+{
     if k == 0 {
-        return size_of(a.bits, at, 0, 10);
+        return 0;
     }
     if k == 1 {
-        return size_of(a.bits, at, 1024, 14);
+        return 1024;
     }
-    if k == 2 {
-        return size_of(a.bits, at, 17408, 22);
+    if k == 2 { 17408 } else { 4211712 }
+}
+
+// A size and how many bits it takes.
+struct Sized {
+    value: u32,
+    width: u32,
+}
+
+// The size that begins at the lowest of bits that are known.
+fn size_in(w: u64) -> Sized
+    ensures { λ r. ⌜ r ≡ sizeIn w ⌝ }
+{
+    let k = bits::low_bits(w, 2);
+    let width = size_width(k);
+    Sized {
+        value: size_base(k) + bits::low_bits(w >> 2, width - 2),
+        width,
     }
-    size_of(a.bits, at, 4211712, 30)
+}
+
+// Two sizes that follow each other, if they could be read at once, and the place behind them.
+struct Pair {
+    there: bool,
+    first: u32,
+    second: u32,
+    at: u64,
+}
+
+// Two sizes out of one look ahead, where two are left to read and it holds both. The second doesn't wait for a load of its own.
+fn read_pair(s: &[u8], c: Cursor, on: bool) -> Pair
+    ensures { λ r. ⌜ (r .there ≡ true → Two (now (s .entry)) c on r) ⌝ }
+{
+    let at = c.at;
+    let a = bits::look_ahead(s, at);
+    let x = size_in(a.bits);
+    let y = size_in(a.bits >> x.width);
+    let width = x.width + y.width;
+    let held = bits::both(a.whole, width <= 56);
+    if bits::idle(c, bits::both(on, held)) {
+        return Pair {
+            there: false,
+            first: 0,
+            second: 0,
+            at,
+        };
+    }
+    Pair {
+        there: true,
+        first: x.value,
+        second: y.value,
+        at: at + (width as u64),
+    }
 }
 
 // Padding, count sizes, padding: read and summed, nothing kept.
@@ -128,10 +161,18 @@ fn walk_sizes(s: &[u8], c: Cursor, count: u32) -> Walk
     let mut total: u64 = 0;
     let mut k: u32 = 0;
     while k < count {
-        let x = read_size(s, at);
-        at = x.next;
-        total += x.value as u64;
-        k += 1;
+        let p = read_pair(s, at, 2 <= count - k);
+        if p.there {
+            total += p.first as u64;
+            total += p.second as u64;
+            at = bits::begin(p.at);
+            k += 2;
+        } else {
+            let x = read_size(s, at);
+            at = x.next;
+            total += x.value as u64;
+            k += 1;
+        }
     }
     let last = bits::zero_pad_to_byte(s, at);
     Walk { first, last, total }
@@ -174,14 +215,27 @@ fn fill_sizes(
     let mut offset = start;
     let mut k: u32 = 0;
     while k < count {
+        let p = read_pair(s, at, 2 <= count - k);
         let i = k as usize;
         let section = inverse[i] as usize;
-        let x = read_size(s, at);
-        put_offset(offsets, section, offset);
-        put_size(sizes, section, x.value);
-        at = x.next;
-        offset += x.value as u64;
-        k += 1;
+        if p.there {
+            let other = inverse[i + 1] as usize;
+            put_offset(offsets, section, offset);
+            put_size(sizes, section, p.first);
+            offset += p.first as u64;
+            put_offset(offsets, other, offset);
+            put_size(sizes, other, p.second);
+            offset += p.second as u64;
+            at = bits::begin(p.at);
+            k += 2;
+        } else {
+            let x = read_size(s, at);
+            put_offset(offsets, section, offset);
+            put_size(sizes, section, x.value);
+            at = x.next;
+            offset += x.value as u64;
+            k += 1;
+        }
     }
 }
 

@@ -4,8 +4,8 @@ use mathlib.Core.Path.{_∙_}
 use lib.Bits.{and-mask}
 use Rattle.toc.proofs.Sizing.{size-widths}
 use borrow.Author.Needs.{needs}
-use Rattle.toc.proofs.reading.size_bits.Statement.{statement}
-use Rattle.toc.proofs.reading.size_bits.Tie as tie
+use Rattle.toc.proofs.reading.size_width.Statement.{statement}
+use Rattle.toc.proofs.reading.size_width.Tie as tie
 
 mul-result : tie.Need-mul-result
 mul-result c = search needs
@@ -14,7 +14,7 @@ shr-result : tie.Need-shr-result
 shr-result c = search needs
 
 returns : tie.Need-returns
-returns c = and-mask (504761866 / 2 ^ (8 * c .args .k)) 8 ∙ size-widths (c .args .k) (c .pre)
+returns c = and-mask (538447884 / 2 ^ (8 * c .args .k)) 8 ∙ size-widths (c .args .k) (c .pre)
 
-pub size-bits-spec : {M : Type 1} → statement M
-size-bits-spec = tie.close (tie.spec mul-result shr-result returns)
+pub size-width-spec : {M : Type 1} → statement M
+size-width-spec = tie.close (tie.spec mul-result shr-result returns)
