@@ -1,5 +1,5 @@
 -- Laws of the field types: what each way out of a reading function answers, over plain variables.
-use Prim.Native.Nat.{ℕ, zero, suc, _+_, _-_, _*_, _/_, _%_, _^_, _≤_, _<_}
+use Prim.Native.Nat.{ℕ, _+_, _-_, _/_, _%_, _^_, _≤_, _<_}
 use native.Mathlib.Decide.{decLe}
 use native.Mathlib.Omega.{arith}
 use mathlib.Core.Logic.{by-cases}
@@ -12,17 +12,16 @@ use borrow.Author.Tests.{not-true, not-false, eq-eqb, ne-eqb, eqb-false, le-leb,
 use Rattle.bits.specs.declared.pieces.Piece.{Piece}
 use Rattle.bits.specs.declared.Cursor.{Cursor}
 use Rattle.bits.specs.declared.Field.{Field}
-use Rattle.bits.specs.declared.Wide.{Wide}
 use Rattle.bits.specs.declared.Choice.{Choice}
 use Rattle.bits.specs.declared.Choices.{Choices}
 use Rattle.bits.specs.Bits.{bitsAt, bitCount, there}
 use Rattle.bits.specs.Refusals.{pick, start, clear}
 use Rattle.bits.specs.Half.{exponent}
 use Rattle.bits.specs.Steps.{Steps, gives, refuses, takes, stopped, refusedAt, run, piece}
-use Rattle.bits.specs.Codec.{Codec, u, bool, u32, cases, u64, f16, padding, skip, steps, field, chosen, choice, long, more, wideOf}
+use Rattle.bits.specs.Codec.{Codec, u, bool, u32, cases, skip, steps, field, chosen, choice}
 use Rattle.bits.proofs.Bits.{and-right, there-parts}
 use Rattle.bits.proofs.Windows.{low-of, part-of}
-use Rattle.bits.proofs.Steps.{run-take, run-cut, run-gives, run-refuses, field-idle, field-run}
+use Rattle.bits.proofs.Steps.{run-take, run-cut, run-refuses, field-run}
 
 -- a field of which something was read: value and cursor as they were made
 pub given : (s : List ℕ) (p q v w : ℕ) (b : Cursor) → w ≡ v → b ≡ start q → _≡_ {A = Field} (record { value = w; next = b }) (run (gives v) s p q)

@@ -1,17 +1,15 @@
 -- Laws of a field's steps: a piece that is there and one that is cut, and how `run` goes on after each.
-use Prim.Native.Nat.{ℕ, _+_, _≤_, _<_, _^_}
+use Prim.Native.Nat.{ℕ, _+_, _<_, _^_}
 use mathlib.Core.Path.{_≡_, refl, sym, _∙_, ap}
 use mathlib.Core.List.{List}
 use mathlib.Core.Bool.{Bool, true, false, not, _&&_, true≢false, false≢true}
-use native.Mathlib.Nat.{zero-lt-suc}
-use lib.Dec.{leb, lit<}
 use lib.Pow.{pow-pos}
 use Rattle.bits.specs.declared.pieces.Piece.{Piece}
 use Rattle.bits.specs.declared.Cursor.{Cursor}
 use Rattle.bits.specs.declared.Field.{Field}
-use Rattle.bits.specs.Bits.{bitsAt, bitCount, there}
+use Rattle.bits.specs.Bits.{bitsAt, there}
 use Rattle.bits.specs.Refusals.{start, clear}
-use Rattle.bits.specs.Steps.{Steps, gives, refuses, takes, passes, refusedAt, run, piece}
+use Rattle.bits.specs.Steps.{Steps, gives, refuses, takes, refusedAt, run, piece}
 use Rattle.bits.specs.Codec.{Codec, steps, field}
 use Rattle.bits.proofs.Bits.{bits-lt}
 

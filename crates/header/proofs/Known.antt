@@ -10,14 +10,12 @@ use lib.Pow.{pow-pos, pow-mono}
 use borrow.Author.Tests.{le-leb, eqb-true, not-true, not-false}
 use Rattle.bits.specs.declared.Choice.{Choice}
 use Rattle.bits.specs.declared.Choices.{Choices}
-use Rattle.bits.specs.declared.Cursor.{Cursor}
 use Rattle.bits.specs.declared.Field.{Field}
 use Rattle.bits.specs.declared.window.Ahead.{Ahead}
-use Rattle.bits.specs.Refusals.{pick, start, clear}
-use Rattle.bits.specs.Bits.{bitsAt, bitCount, there, ahead}
+use Rattle.bits.specs.Refusals.{pick, start}
+use Rattle.bits.specs.Bits.{bitsAt, bitCount, ahead}
 use Rattle.bits.specs.Steps.{run}
-use Rattle.bits.specs.Codec.{Codec, u, u32, field, val, plus, chosen}
-use Rattle.bits.proofs.Bits.{bits-lt}
+use Rattle.bits.specs.Codec.{u, u32, field, val, plus, chosen}
 use Rattle.bits.proofs.Windows.{low-of, high-of, whole-reaches}
 use Rattle.bits.proofs.Codecs.{u32-seen}
 use Rattle.header.specs.declared.blending.View.{View}

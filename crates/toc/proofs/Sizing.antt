@@ -101,7 +101,6 @@ module _ (s : List ℕ) (c : Cursor) (a : Ahead) (ea : a ≡ ahead s (c .at)) (x
     pair-two p ep =
         let known : a .bits ≡ bitsAt s (c .at) 56 = ap (λ (z : Ahead). z .bits) ea in
         let behind : a .bits / 2 ^ x .width ≡ bitsAt s (c .at + x .width) (56 - x .width) = rw known (high-of s (c .at) 56 (x .width) (omega (arith, fits))) in
-        let live : true ≡ (on && held) = sym asked in
         let busy : i ≡ not (true && clear c) = ei ∙ ap (λ (z : Bool). not (z && clear c)) (and-left b (clear c) stands) in
         let one : _≡_ {A = Field} (record { value = x .value; next = start (c .at + x .width) }) (field s true (u32 sizeChoices) 0 c) =
         sized-read s (c .at) 56 (a .bits) x known room ex (omega (arith, fits)) ∙ field-place s true (u32 sizeChoices) 0 c i busy go in

@@ -4,7 +4,6 @@ use mathlib.Core.Path.{sym, ap}
 use Rattle.bits.specs.Codec.{chosen}
 use Rattle.toc.specs.Sizes.{sizeChoices}
 use Rattle.toc.proofs.Sizing.{last-base}
-use borrow.Author.Needs.{needs}
 use Rattle.toc.proofs.reading.size_base.Statement.{statement}
 use Rattle.toc.proofs.reading.size_base.Tie as tie
 
