@@ -154,13 +154,27 @@ pub fn order(count: u32) -> Vec<u32> {
         .collect()
 }
 
+/// How the choices of a table's sizes follow each other: one pattern over and over, which a processor learns, or none.
+#[derive(Clone, Copy, PartialEq)]
+pub enum Choices {
+    Even,
+    Uneven,
+}
+
 /// A table of so many sizes of all four choices, at place 0: the flag, padding, sizes, padding.
-pub fn table(count: u32, permuted: bool) -> Vec<u8> {
+pub fn table(count: u32, permuted: bool, choices: Choices) -> Vec<u8> {
     let mut b = Bits::default();
     b.put(1, permuted as u64);
     b.pad();
     for i in 0..count as u64 {
-        match i % 8 {
+        let turn = match choices {
+            Choices::Even => i % 8,
+            Choices::Uneven => {
+                (i.wrapping_mul(0x9E3779B97F4A7C15) ^ (i << 7)).wrapping_mul(0xBF58476D1CE4E5B9)
+                    >> 61
+            }
+        };
+        match turn {
             7 => b.choice(2, 22, i * 31 % (1 << 22)),
             3 | 5 => b.choice(1, 14, i * 17 % (1 << 14)),
             6 if i % 64 == 6 => b.choice(3, 30, i),

@@ -4,6 +4,7 @@
 mod inputs;
 
 use hingevale::{Facts, Frame, Layout, Tables, TocRead};
+use inputs::Choices;
 use jxl_bitstream::Bitstream;
 use jxl_frame::FrameHeader as TheirHeader;
 use jxl_frame::data::{Toc as TheirToc, TocGroupKind};
@@ -79,10 +80,13 @@ fn header_case(name: &str, bytes: Vec<u8>, f: Facts) -> Case {
     }
 }
 
-fn toc_case(count: u32, permuted: bool) -> Case {
+fn toc_case(count: u32, permuted: bool, choices: Choices) -> Case {
     let f = inputs::frame(count);
     let count = hingevale::section_count(&f).expect("a frame");
-    let (bytes, order) = (inputs::table(count, permuted), inputs::order(count));
+    let (bytes, order) = (
+        inputs::table(count, permuted, choices),
+        inputs::order(count),
+    );
     let n = count as usize;
     let (mut offsets, mut sizes, mut sent, mut inverse) =
         (vec![0; n], vec![0; n], vec![0; n], vec![0; n]);
@@ -93,8 +97,13 @@ fn toc_case(count: u32, permuted: bool) -> Case {
     );
     Case {
         name: format!(
-            "table of {count} sections{}",
-            if permuted { ", permuted" } else { "" }
+            "table of {count} sections{}{}",
+            if permuted { ", permuted" } else { "" },
+            if choices == Choices::Even {
+                ""
+            } else {
+                ", uneven"
+            }
         ),
         runs: (400_000 / (count + 100)).max(4),
         ours: Box::new(move || {
@@ -132,8 +141,11 @@ fn look_up_case(kept: bool) -> Case {
     let f = inputs::frame(65536);
     let count = hingevale::section_count(&f).expect("a frame");
     let h = their_header(&f);
-    let toc =
-        TheirToc::parse(&mut Bitstream::new(&inputs::table(count, false)), &h).expect("accepted");
+    let toc = TheirToc::parse(
+        &mut Bitstream::new(&inputs::table(count, false, Choices::Even)),
+        &h,
+    )
+    .expect("accepted");
     let layout = Layout::of(&f).expect("a frame");
     let (mut x, mut u) = (0u32, 0u32);
     let width = f.width;
@@ -180,11 +192,12 @@ fn cases() -> Vec<Case> {
         header_case("header, rich", rich, known),
     ];
     for count in [1, 100, 10000, 65536] {
-        all.push(toc_case(count, false));
-        all.push(toc_case(count, true));
+        all.push(toc_case(count, false, Choices::Even));
+        all.push(toc_case(count, true, Choices::Even));
     }
     all.push(look_up_case(true));
     all.push(look_up_case(false));
+    all.push(toc_case(10000, false, Choices::Uneven));
     all
 }
 
