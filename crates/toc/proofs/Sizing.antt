@@ -75,17 +75,11 @@ sized-read s q m w z ew room ez enough =
     ∙ u32-seen s q m w sizeChoices ch (z .value) ew room refl (omega (arith, size-narrow (w % 4))) (omega (arith, width, enough)) (sym (mod-eq-of-lt below) ∙ ap (λ (x : ℕ). x % 2 ^ 32) value)
 
 -- two sizes out of one look ahead
-module _ (s : List ℕ) (c : Cursor) (a : Ahead) (ea : a ≡ ahead s (c .at)) (x y : Sized) (ex : x ≡ sizeIn (a .bits)) (ey : y ≡ sizeIn (a .bits / 2 ^ x .width)) (on held b i : Bool)
-    (eh : held ≡ (a .whole && leb (x .width + y .width) 56)) (eb : b ≡ (on && held)) (ei : i ≡ not (b && clear c)) (go : i ≡ false)
+module _ (s : List ℕ) (c : Cursor) (on i : Bool) (ei : i ≡ not (on && clear c)) (go : i ≡ false) (a : Ahead) (ea : a ≡ ahead s (c .at)) (x y : Sized) (ex : x ≡ sizeIn (a .bits))
+    (ey : y ≡ sizeIn (a .bits / 2 ^ x .width)) (held : Bool) (eh : held ≡ (a .whole && leb (x .width + y .width) 56)) (is : not held ≡ false)
   where
-    stands : (b && clear c) ≡ true
-    stands = not-false (b && clear c) (sym ei ∙ go)
-
-    asked : (on && held) ≡ true
-    asked = sym eb ∙ and-left b (clear c) stands
-
     inside : (a .whole && leb (x .width + y .width) 56) ≡ true
-    inside = sym eh ∙ and-right on held asked
+    inside = sym eh ∙ not-false held is
 
     room : c .at + 56 ≤ bitCount s
     room = whole-reaches s (c .at) 56 (a .whole) (ap (λ (z : Ahead). z .whole) ea) (and-left (a .whole) (leb (x .width + y .width) 56) inside) (omega arith)
@@ -99,17 +93,17 @@ module _ (s : List ℕ) (c : Cursor) (a : Ahead) (ea : a ≡ ahead s (c .at)) (x
     pub pair-two : (p : Pair) → p ≡ record { there = true; first = x .value; second = y .value; at = c .at + (x .width + y .width) } → Two s c on p
     unfolding ahead
     pair-two p ep =
+        let asked : on ≡ true = and-left on (clear c) (not-false (on && clear c) (sym ei ∙ go)) in
         let known : a .bits ≡ bitsAt s (c .at) 56 = ap (λ (z : Ahead). z .bits) ea in
         let behind : a .bits / 2 ^ x .width ≡ bitsAt s (c .at + x .width) (56 - x .width) = rw known (high-of s (c .at) 56 (x .width) (omega (arith, fits))) in
-        let busy : i ≡ not (true && clear c) = ei ∙ ap (λ (z : Bool). not (z && clear c)) (and-left b (clear c) stands) in
         let one : _≡_ {A = Field} (record { value = x .value; next = start (c .at + x .width) }) (field s true (u32 sizeChoices) 0 c) =
-        sized-read s (c .at) 56 (a .bits) x known room ex (omega (arith, fits)) ∙ field-place s true (u32 sizeChoices) 0 c i busy go in
+        sized-read s (c .at) 56 (a .bits) x known room ex (omega (arith, fits)) ∙ field-place s true (u32 sizeChoices) 0 c i (rw asked at ei) go in
         let two : _≡_ {A = Field} (record { value = y .value; next = start (c .at + x .width + y .width) }) (field s true (u32 sizeChoices) 0 (start (c .at + x .width))) =
         sized-read s (c .at + x .width) (56 - x .width) (a .bits / 2 ^ x .width) y behind (omega (arith, room, fits)) ey (omega (arith, fits)) in
         let place : c .at + (x .width + y .width) ≡ c .at + x .width + y .width = omega arith in
         rw ep
         (record {
-          wanted = and-left on held asked;
+          wanted = asked;
           first = ap (λ (f : Field). f .value) one;
           second = ap (λ (q : ℕ). record { value = y .value; next = start q }) place ∙ two ∙ ap (λ (f : Field). field s true (u32 sizeChoices) 0 (f .next)) one;
         })

@@ -126,23 +126,31 @@ struct Pair {
     at: u64,
 }
 
+fn no_pair(at: u64) -> Pair
+    ensures { λ r. ⌜ r .there ≡ false ⌝ }
+{
+    Pair {
+        there: false,
+        first: 0,
+        second: 0,
+        at,
+    }
+}
+
 // Two sizes out of one look ahead, where two are left to read and it holds both. The second doesn't wait for a load of its own.
 fn read_pair(s: &[u8], c: Cursor, on: bool) -> Pair
     ensures { λ r. ⌜ (r .there ≡ true → Two (now (s .entry)) c on r) ⌝ }
 {
     let at = c.at;
+    if bits::idle(c, on) {
+        return no_pair(at);
+    }
     let a = bits::look_ahead(s, at);
     let x = size_in(a.bits);
     let y = size_in(a.bits >> x.width);
     let width = x.width + y.width;
-    let held = bits::both(a.whole, width <= 56);
-    if bits::idle(c, bits::both(on, held)) {
-        return Pair {
-            there: false,
-            first: 0,
-            second: 0,
-            at,
-        };
+    if !bits::both(a.whole, width <= 56) {
+        return no_pair(at);
     }
     Pair {
         there: true,
