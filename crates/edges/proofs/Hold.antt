@@ -16,7 +16,7 @@ use Rattle.grid.specs.Measured.{gridOf, goodRecord, laid, refusedGrid}
 use Rattle.grid.specs.Groups.{rectFor, cellOf, clipped, has, judge, placed}
 use Rattle.header.specs.Header.{header, front, back}
 use Rattle.header.specs.Opening.{opening}
-use Rattle.header.specs.Shape.{passes, quant, crop}
+use Rattle.header.specs.Shape.{passes, scales, placement}
 use Rattle.header.specs.Arrays.{element}
 use Rattle.header.specs.Blending.{coversSide, coversImage, hasSource, blending}
 use Rattle.header.specs.Closing.{closing}
@@ -28,5 +28,5 @@ use Rattle.toc.specs.Sizes.{tocRows, sizeRows, sentBefore, offsetsBy, sizesBy}
 use Rattle.toc.specs.Reading.{roomFor, judgedBy, judgedOrder, tocOf, sizedAnswer, firstRead, secondRead, refusedRead, firstReading, secondReading, tablesOf, written}
 
 pub every-edge : T (every rows)
-unfolding read bind within times failed field more run bitsAt extensions lengths restoration gabor channel gaborOf epf sharp scale sigma float floats unbalanced gridOf goodRecord laid refusedGrid rectFor cellOf clipped has judge placed header front back opening passes quant crop element coversSide coversImage hasSource blending closing frameHeader isOrder checked tabulate indexOf inverseOf identity filled tocRows sizeRows sentBefore offsetsBy sizesBy roomFor judgedBy judgedOrder tocOf sizedAnswer firstRead secondRead refusedRead firstReading secondReading tablesOf written sectionsOf up sample allBelow distinct occurs sumTo
+unfolding read bind within times failed field more run bitsAt extensions lengths restoration gabor channel gaborOf epf sharp scale sigma float floats unbalanced gridOf goodRecord laid refusedGrid rectFor cellOf clipped has judge placed header front back opening passes scales placement element coversSide coversImage hasSource blending closing frameHeader isOrder checked tabulate indexOf inverseOf identity filled tocRows sizeRows sentBefore offsetsBy sizesBy roomFor judgedBy judgedOrder tocOf sizedAnswer firstRead secondRead refusedRead firstReading secondReading tablesOf written sectionsOf up sample allBelow distinct occurs sumTo
 every-edge = tt

@@ -14,7 +14,7 @@ use Rattle.grid.specs.declared.Frame.{Frame}
 use Rattle.grid.specs.Measured.{gridOf}
 use Rattle.grid.specs.Groups.{rectFor}
 use Rattle.header.specs.declared.Facts.{Facts}
-use Rattle.header.specs.declared.shape.Crop.{Crop}
+use Rattle.header.specs.declared.shape.Placement.{Placement}
 use Rattle.header.specs.Header.{Header}
 use Rattle.header.specs.Questions.{frameHeader, frameOf}
 use Rattle.header.specs.Blending.{coversImage, resets}
@@ -87,7 +87,7 @@ abbrev pub weights : ℕ → List ℕ
 weights third = 0x03 ∷ 0xd0 ∷ third ∷ 0 ∷ 0 ∷ 0 ∷ 0 ∷ 0 ∷ 0 ∷ 0 ∷ 0 ∷ 0 ∷ 0 ∷ []
 
 -- a crop with y0 = 0, width 301 and height 100; x0 as it is read
-abbrev pub cropped : ℕ → Crop
+abbrev pub cropped : ℕ → Placement
 cropped x = record { «lf_level» = 0; «have_crop» = 1; x0 = x; y0 = 0; width = 301; height = 100 }
 
 -- ---- the table

@@ -2,8 +2,8 @@
 use mathlib.Core.Path.{_≡_, _∙_, ap}
 use mathlib.Core.List.{List}
 use Prim.Native.Nat.{ℕ}
-use Rattle.words.specs.Answers.{Answer, Given}
-use Rattle.words.proofs.Wording.{worded}
+use Rattle.c_words.specs.Answers.{Answer, Given}
+use Rattle.c_words.proofs.Wording.{worded}
 
 -- a question on a frame: the frame made of six numbers, the answer of the crate below, and the words handed out
 pub asked : {F X : Type 0} (answer : X → Answer) (ask : F → X) {f g : F} {x : X} {before after : List ℕ} {word : ℕ}

@@ -10,9 +10,9 @@ use Rattle.bits.specs.declared.Refusal.{Refusal}
 use Rattle.header.specs.declared.Facts.{Facts}
 use Rattle.header.specs.declared.entry.HeaderAnswer.{HeaderAnswer}
 use Rattle.header.specs.Entry.{judged, stands, answered, refusedHeader, Headed}
-use Rattle.words.specs.Status.{statusOf}
-use Rattle.words.specs.Heading.{HandedOut, recordRoom, noRecord, Buffers, judgedAll, HeadRead}
-use Rattle.words.proofs.Recording.{refused-by, not-none}
+use Rattle.c_words.specs.Status.{statusOf}
+use Rattle.c_words.specs.Heading.{HandedOut, recordRoom, noRecord, Buffers, judgedAll, HeadRead}
+use Rattle.c_words.proofs.Recording.{refused-by, not-none}
 
 module _ (f : Facts) (s : List ℕ) (before : Buffers) (room : Bool)
     (er : room ≡ recordRoom (length (before .numbers)) (length (before .signs)) (length (before .reals))) where

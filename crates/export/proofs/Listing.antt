@@ -8,8 +8,8 @@ use Rattle.bits.specs.declared.Refusal.{Refusal}
 use Rattle.grid.specs.declared.Frame.{Frame}
 use Rattle.toc.specs.declared.TocRead.{TocRead}
 use Rattle.toc.specs.Reading.{Tables, Reading, Done, refusedRead, written}
-use Rattle.words.specs.Status.{statusOf}
-use Rattle.words.specs.Contents.{tocStatus, tocAfter, noRoom, roomedReading, Listed}
+use Rattle.c_words.specs.Status.{statusOf}
+use Rattle.c_words.specs.Contents.{tocStatus, tocAfter, noRoom, roomedReading, Listed}
 
 module _ (s : List ℕ) (f g : Frame) (ef : f ≡ g) (ask : Frame → Reading) (t : Tables) (out : List ℕ) where
   -- too few words: nothing is written

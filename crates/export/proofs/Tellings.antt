@@ -12,7 +12,7 @@ use Rattle.bits.specs.Refusals.{pick, refusal}
 use Rattle.bits.proofs.Once.{once}
 use Rattle.listing.specs.declared.TextAnswer.{TextAnswer}
 use Rattle.listing.specs.Put.{fitted, answerBy, Texted}
-use Rattle.words.specs.Status.{statusOf}
+use Rattle.c_words.specs.Status.{statusOf}
 use Rattle.export.specs.Told.{untold, Told}
 
 module _ (text before out : List ℕ) (short : Bool) where

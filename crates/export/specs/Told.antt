@@ -9,7 +9,7 @@ use lib.Seq.{sets}
 use Rattle.bits.specs.declared.Refusal.{Refusal}
 use Rattle.bits.specs.Refusals.{pick, refusal}
 use Rattle.listing.specs.Put.{fitted}
-use Rattle.words.specs.Status.{statusOf}
+use Rattle.c_words.specs.Status.{statusOf}
 
 -- 3 where there is no word for the length, or no room for the text
 unfoldable pub untold : Bool → List ℕ → List ℕ → Refusal

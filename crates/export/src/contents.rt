@@ -1,11 +1,11 @@
 // Both section entries, over the six numbers of a frame.
-use words::frame;
-use words::give_toc;
-use words::no_room;
-use words::status;
+use c_words::frame;
+use c_words::give_toc;
+use c_words::no_room;
+use c_words::status;
 ghost use Rattle.toc.specs.Reading.{tables, firstReading, secondReading};
-ghost use Rattle.words.specs.Records.{frame};
-ghost use Rattle.words.specs.Contents.{roomedReading, Listed};
+ghost use Rattle.c_words.specs.Records.{frame};
+ghost use Rattle.c_words.specs.Contents.{roomedReading, Listed};
 
 // The first entry: reads the permuted flag, then the sizes; a flag of 1 is "order needed".
 #[no_mangle]

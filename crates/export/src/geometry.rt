@@ -1,14 +1,14 @@
 // The geometry of a frame, over its six numbers: the grid and the questions on it.
-use words::frame;
-use words::give_grid;
-use words::give_number;
-use words::give_rect;
-use words::give_touch;
-use words::region;
+use c_words::frame;
+use c_words::give_grid;
+use c_words::give_number;
+use c_words::give_rect;
+use c_words::give_touch;
+use c_words::region;
 ghost use Rattle.grid.specs.Measured.{gridOf};
 ghost use Rattle.grid.specs.Groups.{sampled, rectFor, lfIndexOf, indexFor, touchFor};
-ghost use Rattle.words.specs.Answers.{Given};
-ghost use Rattle.words.specs.Records.{frame, rect, numberAnswer, placedAnswer, touchAnswer, gridAnswer};
+ghost use Rattle.c_words.specs.Answers.{Given};
+ghost use Rattle.c_words.specs.Records.{frame, rect, numberAnswer, placedAnswer, touchAnswer, gridAnswer};
 
 // The grid: colour sample size, sides, columns, rows and counts.
 #[no_mangle]

@@ -1,10 +1,10 @@
 // The header entry, over the facts as numbers.
+use c_words::give_record;
+use c_words::has_room;
+use c_words::no_record;
+use c_words::status;
 use header::Facts;
-use words::give_record;
-use words::has_room;
-use words::no_record;
-use words::status;
-ghost use Rattle.words.specs.Heading.{facts, buffers, HeadRead};
+ghost use Rattle.c_words.specs.Heading.{facts, buffers, HeadRead};
 
 // The header entry: 2, 1, 3, then the first fault in reading order.
 #[no_mangle]

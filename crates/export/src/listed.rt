@@ -1,12 +1,12 @@
 // The listing: from the bytes of a facts line and a frame to the bytes of the text.
+use c_words::status;
 use listing::TextAnswer;
-use words::status;
 ghost use mathlib.Core.Path.{_≡_};
 ghost use lib.Dec.{eqb, ltb};
 ghost use lib.ListN.{length, set};
 ghost use Rattle.bits.specs.Refusals.{pick};
-ghost use Rattle.lister.specs.Job.{jobText};
-ghost use Rattle.words.specs.Status.{statusOf};
+ghost use Rattle.listing_job.specs.Job.{jobText};
+ghost use Rattle.c_words.specs.Status.{statusOf};
 ghost use Rattle.export.specs.Told.{untold, Told};
 
 fn put_length(out: &mut [u64], v: u64)
@@ -40,6 +40,6 @@ pub extern "C" fn hingevale_list(input: &[u8], text: &mut [u8], out: &mut [u64])
     if out.len() < 1 {
         return status(bits::refused(3, 0));
     }
-    let a = lister::list_frame(input, text);
+    let a = listing_job::list_frame(input, text);
     give_length(a, out)
 }

@@ -1,21 +1,21 @@
 // The look-ups from a kind, a sample, a section number and a sent number. A kind goes by its number: All 0, LfGlobal 1, LfGroup 2,
 // HfGlobal 3, GroupPass 4.
+use c_words::frame;
+use c_words::give_kind;
+use c_words::give_layout;
+use c_words::give_place;
+use c_words::give_section;
+use c_words::give_sent;
+use c_words::section_by;
+use c_words::section_named;
 use order::SectionNumber;
 use order::SentNumber;
-use words::frame;
-use words::give_kind;
-use words::give_layout;
-use words::give_place;
-use words::give_section;
-use words::give_sent;
-use words::section_by;
-use words::section_named;
-ghost use Rattle.kinds.specs.Kinds.{kindOf};
-ghost use Rattle.kinds.specs.Lookups.{sectionOfSample, placeOf, sentOfSection, sectionOfSent};
+ghost use Rattle.sections.specs.Kinds.{kindOf};
+ghost use Rattle.sections.specs.Lookups.{sectionOfSample, placeOf, sentOfSection, sectionOfSent};
 ghost use Rattle.layout.specs.Layouts.{layoutOf};
-ghost use Rattle.words.specs.Answers.{Given};
-ghost use Rattle.words.specs.Layouts.{layoutAnswer, sectionBy};
-ghost use Rattle.words.specs.Records.{frame, sectionNumber, sentNumber, sectionOfNumbers, sectionAnswer, sentAnswer, kindAnswer, placeAnswer};
+ghost use Rattle.c_words.specs.Answers.{Given};
+ghost use Rattle.c_words.specs.Layouts.{layoutAnswer, sectionBy};
+ghost use Rattle.c_words.specs.Records.{frame, sectionNumber, sentNumber, sectionOfNumbers, sectionAnswer, sentAnswer, kindAnswer, placeAnswer};
 
 // A kind, by its number, pass and group, to its section number.
 #[no_mangle]
@@ -66,7 +66,7 @@ pub extern "C" fn hingevale_kind_of(
         group_size_shift,
         num_passes,
     );
-    give_kind(kinds::kind_of(f, SectionNumber(section)), out)
+    give_kind(sections::kind_of(f, SectionNumber(section)), out)
 }
 
 // A sample and a pass to their section number.
@@ -93,7 +93,7 @@ pub extern "C" fn hingevale_section_of_sample(
         group_size_shift,
         num_passes,
     );
-    give_section(kinds::section_of_sample(f, x, y, pass), out)
+    give_section(sections::section_of_sample(f, x, y, pass), out)
 }
 
 // A frame's layout: what a look-up of a sample needs of the frame, measured once.
@@ -159,7 +159,7 @@ pub extern "C" fn hingevale_section_at(
         num_passes,
     );
     give_place(
-        kinds::section_at(f, offsets, sizes, SectionNumber(section)),
+        sections::section_at(f, offsets, sizes, SectionNumber(section)),
         out,
     )
 }
@@ -188,7 +188,7 @@ pub extern "C" fn hingevale_sent_of_section(
         num_passes,
     );
     give_sent(
-        kinds::sent_of_section(f, order, SectionNumber(section)),
+        sections::sent_of_section(f, order, SectionNumber(section)),
         out,
     )
 }
@@ -216,5 +216,5 @@ pub extern "C" fn hingevale_section_of_sent(
         group_size_shift,
         num_passes,
     );
-    give_section(kinds::section_of_sent(f, inverse, SentNumber(sent)), out)
+    give_section(sections::section_of_sent(f, inverse, SentNumber(sent)), out)
 }

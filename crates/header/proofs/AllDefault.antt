@@ -24,7 +24,7 @@ use Rattle.header.specs.declared.parts.Front.{Front}
 use Rattle.header.specs.declared.parts.Back.{Back}
 use Rattle.header.specs.Arrays.{element, array, Arrayed}
 use Rattle.header.specs.Opening.{opening, upsamplings}
-use Rattle.header.specs.Shape.{passes, quant, crop}
+use Rattle.header.specs.Shape.{passes, scales, placement}
 use Rattle.header.specs.Blending.{blending, words, byColour, Extras}
 use Rattle.header.specs.Closing.{closing}
 use Rattle.header.specs.Header.{noBlending, front, back, header}
@@ -58,17 +58,17 @@ module _ (f : Facts) (s : List ℕ) (c : Cursor) where
   unfolding opening defaultFront read field
   opening-off b e = row-then (record { value = 1; next = c }) e (record { is = refl })
 
-  quant-off : Reads (quant f (defaultFront f .opening)) s c (record { value = defaultFront f .quant; next = c })
-  unfolding quant defaultFront read field
-  quant-off = record { is = rw (and-true (f .xyb)) }
+  scales-off : Reads (scales f (defaultFront f .opening)) s c (record { value = defaultFront f .scales; next = c })
+  unfolding scales defaultFront read field
+  scales-off = record { is = rw (and-true (f .xyb)) }
 
   passes-off : Reads (passes false) s c (record { value = defaultFront f .passes; next = c })
   unfolding passes defaultFront element times bind read field
   passes-off = record { is = refl }
 
-  crop-off : Reads (crop f (defaultFront f .opening)) s c (record { value = defaultFront f .crop; next = c })
-  unfolding crop defaultFront read field
-  crop-off = record { is = refl }
+  placement-off : Reads (placement f (defaultFront f .opening)) s c (record { value = defaultFront f .placement; next = c })
+  unfolding placement defaultFront read field
+  placement-off = record { is = refl }
 
   closing-off : (resets : Bool) → Reads (closing f (defaultFront f .opening) resets) s c (record { value = defaultBack .closing; next = c })
   unfolding closing defaultFront defaultBack read field
@@ -80,11 +80,11 @@ module _ (f : Facts) (s : List ℕ) (c : Cursor) where
   front-off e =
       within-then _ _ _ _ _ (opening-off (start 0) e)
       (bind-then _ _ _ _ (array-none (u32 upsamplings) 1 _ s c (f .extra))
-      (within-then _ _ _ _ _ quant-off
+      (within-then _ _ _ _ _ scales-off
       (within-then _ _ _ _ _ passes-off
-      (within-then _ _ _ _ _ crop-off at-end))))
+      (within-then _ _ _ _ _ placement-off at-end))))
 
-  back-off : Reads (back f (defaultFront f .opening) (defaultFront f .crop)) s c (record { value = record { back = defaultBack; blending = replicate (f .extra) noBlending; name = [] }; next = c })
+  back-off : Reads (back f (defaultFront f .opening) (defaultFront f .placement)) s c (record { value = record { back = defaultBack; blending = replicate (f .extra) noBlending; name = [] }; next = c })
   unfolding back defaultFront defaultBack field
   back-off =
       within-then _ _ _ _ _ (blending-off _ _ _ s c)

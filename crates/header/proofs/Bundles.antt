@@ -21,8 +21,8 @@ use Rattle.bits.proofs.Steps.{field-place}
 use Rattle.bits.proofs.Codecs.{bool-is, case-known}
 use Rattle.header.specs.declared.Facts.{Facts}
 use Rattle.header.specs.declared.opening.Opening.{Opening}
-use Rattle.header.specs.declared.shape.Quant.{Quant}
-use Rattle.header.specs.declared.shape.Crop.{Crop}
+use Rattle.header.specs.declared.shape.Scales.{Scales}
+use Rattle.header.specs.declared.shape.Placement.{Placement}
 use Rattle.header.specs.declared.blending.Blending.{Blending}
 use Rattle.header.specs.declared.blending.Decider.{Decider}
 use Rattle.header.specs.declared.closing.Closing.{Closing}
@@ -33,7 +33,7 @@ use Rattle.types.specs.Types.{flagged}
 use Rattle.header.specs.Opening.{opening, upsamplings}
 use Rattle.header.specs.declared.shape.Passes.{Passes}
 use Rattle.header.specs.Arrays.{array, Arrayed}
-use Rattle.header.specs.Shape.{places, passCounts, downsamples, lastPasses, passes, quant, crop}
+use Rattle.header.specs.Shape.{places, passCounts, downsamples, lastPasses, passes, scales, placement}
 use Rattle.header.proofs.Walks.{array-out, read-then, busy}
 use Rattle.header.proofs.Known.{Held, held-ahead, fieldOf, see-is, see-choice}
 use Rattle.header.specs.Blending.{modes, alphas, hasSource, blending}
@@ -75,16 +75,16 @@ opening-law s c f all kind enc fl yc j0 j1 j2 up p1 p2 p3 p4 p5 p6 p7 p8 p9 =
     let n : fl .next ≡ field s (eqb (all .value) 0) u64 0 (enc .next) .next = ap (λ (w : Wide). w .next) p4 in
     rw (← p1, ← p2, ← p3, ← v, ← n, ← p5, ← p6, ← p7, ← p8, ← p9)
 
-pub quant-law : (s : List ℕ) (c : Cursor) (f : Facts) (o : Opening) (w : Bool) (d : ℕ) (shift x b : Field)
+pub scales-law : (s : List ℕ) (c : Cursor) (f : Facts) (o : Opening) (w : Bool) (d : ℕ) (shift x b : Field)
     → w ≡ (f .xyb && eqb (o .encoding) 0) → d ≡ pick w 3 2
     → shift ≡ field s (eqb (o .encoding) 1) (u 2) 1 c
     → x ≡ field s (eqb (o .«all_default») 0 && w) (u 3) d (shift .next)
     → b ≡ field s (eqb (o .«all_default») 0 && w) (u 3) 2 (x .next)
-    → _≡_ {A = Out Quant} (record { value = record { «group_size_shift» = shift .value; «x_qm_scale» = x .value; «b_qm_scale» = b .value }; next = b .next }) (read (quant f o) s c)
-unfolding quant read
-quant-law s c f o w d shift x b pw pd p1 p2 p3 = rw (← pw, ← pd, ← p1, ← p2, ← p3)
+    → _≡_ {A = Out Scales} (record { value = record { «group_size_shift» = shift .value; «x_qm_scale» = x .value; «b_qm_scale» = b .value }; next = b .next }) (read (scales f o) s c)
+unfolding scales read
+scales-law s c f o w d shift x b pw pd p1 p2 p3 = rw (← pw, ← pd, ← p1, ← p2, ← p3)
 
-pub crop-law : (s : List ℕ) (c : Cursor) (f : Facts) (o : Opening) (level cropped x y w h : Field) (l : ℕ)
+pub placement-law : (s : List ℕ) (c : Cursor) (f : Facts) (o : Opening) (level cropped x y w h : Field) (l : ℕ)
     → level ≡ field s (eqb (o .«frame_type») 1) (u 2) 0 c
     → l ≡ pick (eqb (o .«frame_type») 1) (level .value + 1) 0
     → cropped ≡ field s (eqb (o .«all_default») 0 && not (eqb (o .«frame_type») 1)) bool 0 (level .next)
@@ -92,9 +92,9 @@ pub crop-law : (s : List ℕ) (c : Cursor) (f : Facts) (o : Opening) (level crop
     → y ≡ field s (eqb (cropped .value) 1 && not (eqb (o .«frame_type») 2)) (u32 places) 0 (x .next)
     → w ≡ field s (eqb (cropped .value) 1) (u32 places) (f .width) (y .next)
     → h ≡ field s (eqb (cropped .value) 1) (u32 places) (f .height) (w .next)
-    → _≡_ {A = Out Crop} (record { value = record { «lf_level» = l; «have_crop» = cropped .value; x0 = x .value; y0 = y .value; width = w .value; height = h .value }; next = h .next }) (read (crop f o) s c)
-unfolding crop read
-crop-law s c f o level cropped x y w h l p1 pl p2 p3 p4 p5 p6 = rw (← p1, ← pl, ← p2, ← p3, ← p4, ← p5, ← p6)
+    → _≡_ {A = Out Placement} (record { value = record { «lf_level» = l; «have_crop» = cropped .value; x0 = x .value; y0 = y .value; width = w .value; height = h .value }; next = h .next }) (read (placement f o) s c)
+unfolding placement read
+placement-law s c f o level cropped x y w h l p1 pl p2 p3 p4 p5 p6 = rw (← p1, ← pl, ← p2, ← p3, ← p4, ← p5, ← p6)
 
 pub blending-law : (s : List ℕ) (c : Cursor) (on extra full : Bool) (d : Decider) (m a k x : Field) (has : Bool)
     → m ≡ field s on (cases modes 5) 0 c

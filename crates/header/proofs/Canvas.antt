@@ -13,7 +13,7 @@ use Rattle.bits.specs.Refusals.{pick}
 use Rattle.bits.specs.Codec.{signed}
 use Rattle.numbers.proofs.Signed.{signed-even}
 use Rattle.header.specs.declared.Facts.{Facts}
-use Rattle.header.specs.declared.shape.Crop.{Crop}
+use Rattle.header.specs.declared.shape.Placement.{Placement}
 use Rattle.header.specs.declared.blending.Decider.{Decider}
 use Rattle.header.specs.Blending.{coversSide, coversImage, hasSource}
 
@@ -25,7 +25,7 @@ pub source-given : (d : Decider) (own : ℕ) (full b : Bool) → d .own ≡ fals
 unfolding hasSource
 source-given d own full b h e = rw (e, h)
 
-pub covers-both : (f : Facts) (c : Crop) (x y b r : Bool) → x ≡ coversSide (c .x0) (c .width) (f .width) → y ≡ coversSide (c .y0) (c .height) (f .height)
+pub covers-both : (f : Facts) (c : Placement) (x y b r : Bool) → x ≡ coversSide (c .x0) (c .width) (f .width) → y ≡ coversSide (c .y0) (c .height) (f .height)
     → b ≡ (x && y) → r ≡ (eqb (c .«have_crop») 0 || b) → r ≡ coversImage f c
 unfolding coversImage
 covers-both f c x y b r ex ey eb er = er ∙ rw (eb, ex, ey)

@@ -65,13 +65,13 @@ pub facts-by : (f : Facts) (a b c d : Bool) → a ≡ (eqb (f .width) 0 || ltb 1
 facts-by f a b c d ea eb ec ed = ed ∙ rw (ec, ea, eb)
 
 -- the two parts are the header
-pub header-law : (f : Facts) (s : List ℕ) (a : FrontRead) (b : BackRead) (w w' x x' : List ℕ) → Fronted f s a w w' → Backed f (a .value .opening) (a .value .crop) s (a .next) b x x'
+pub header-law : (f : Facts) (s : List ℕ) (a : FrontRead) (b : BackRead) (w w' x x' : List ℕ) → Fronted f s a w w' → Backed f (a .value .opening) (a .value .placement) s (a .next) b x x'
     → stands f s ≡ record {
       value = record {
         front = a .value;
         upsampling = read (array (u32 upsamplings) (sentUpsampling f (a .value .opening)) (f .extra) 1 (λ (x : List ℕ) (i : ℕ). 0)) s (a .«upsampling_at») .value;
         back = b .value;
-        blending = read (extras (shown (a .value .opening)) (f .extra) (coversImage f (a .value .crop)) (byColour (b .value .blending .mode))) s (b .«blending_at») .value;
+        blending = read (extras (shown (a .value .opening)) (f .extra) (coversImage f (a .value .placement)) (byColour (b .value .blending .mode))) s (b .«blending_at») .value;
         name = read (array (u 8) (b .value .closing .«name_length») (b .value .closing .«name_length») 0 (λ (x : List ℕ) (i : ℕ). 0)) s (b .«name_at») .value;
       };
       next = b .next;
@@ -81,13 +81,13 @@ header-law f s a b w w' x x' fa fb =
     let ups = read (array (u32 upsamplings) (sentUpsampling f (a .value .opening)) (f .extra) 1 (λ (x : List ℕ) (i : ℕ). 0)) s (a .«upsampling_at») .value in
     let first : _≡_ {A = Out Begun} (record { value = record { front = a .value; upsampling = ups }; next = a .next }) (read (front f) s (start 0)) =
     sym (λ i. record { value = record { front = fa .value i; upsampling = fa .upsampling i }; next = fa .next i }) in
-    let second : _≡_ {A = Ended} (read (back f (a .value .opening) (a .value .crop)) s (a .next) .value) (record {
+    let second : _≡_ {A = Ended} (read (back f (a .value .opening) (a .value .placement)) s (a .next) .value) (record {
       back = b .value;
-      blending = read (extras (shown (a .value .opening)) (f .extra) (coversImage f (a .value .crop)) (byColour (b .value .blending .mode))) s (b .«blending_at») .value;
+      blending = read (extras (shown (a .value .opening)) (f .extra) (coversImage f (a .value .placement)) (byColour (b .value .blending .mode))) s (b .«blending_at») .value;
       name = read (array (u 8) (b .value .closing .«name_length») (b .value .closing .«name_length») 0 (λ (x : List ℕ) (i : ℕ). 0)) s (b .«name_at») .value;
     }) = λ i. record { back = fb .value i; blending = fb .blending i; name = fb .name i } in
     read-then (front f) _ s (start 0) (record { value = record { front = a .value; upsampling = ups }; next = a .next }) first
-    ∙ read-then (back f (a .value .opening) (a .value .crop)) _ s (a .next) (read (back f (a .value .opening) (a .value .crop)) s (a .next)) refl
+    ∙ read-then (back f (a .value .opening) (a .value .placement)) _ s (a .next) (read (back f (a .value .opening) (a .value .placement)) s (a .next)) refl
     ∙ rw (second, fb .next)
 
 one-by : (t : Bool) (v : ℕ) (all : Field) → all ≡ pick t (record { value = v; next = start 1 }) (refusedAt 4 0) → all .value ≡ 1 → all .next ≡ start 1
@@ -128,7 +128,7 @@ module _ (f : Facts) (s name upsampling blending : List ℕ) (before : Refusal) 
       }
 
   module _ (go : before .number ≡ 0) (a : FrontRead) (b : BackRead) (w w' x x' : List ℕ) (fa : Fronted f s a w w')
-      (fb : Backed f (a .value .opening) (a .value .crop) s (a .next) b x x')
+      (fb : Backed f (a .value .opening) (a .value .placement) s (a .next) b x x')
     where
       yes : eqb (judged (length s) f (length name) (length upsampling) (length blending) .number) 0 ≡ true
       yes = rw (← eb) (eq-eqb (before .number) 0 go)
@@ -159,10 +159,10 @@ module _ (f : Facts) (s name upsampling blending : List ℕ) (before : Refusal) 
 
 -- what a table of eight words for the upsampling and one of 32 for the blending keep of up to eight extra channels
 pub kept-by : (f : Facts) (s : List ℕ) (a : FrontRead) (b : BackRead) (w w' x x' : List ℕ) → length w ≡ 8 → length x ≡ 32 → Fronted f s a w w'
-    → Backed f (a .value .opening) (a .value .crop) s (a .next) b x x' → Kept f s a b w' x'
+    → Backed f (a .value .opening) (a .value .placement) s (a .next) b x x' → Kept f s a b w' x'
 kept-by f s a b w w' x x' hw hx fa fb =
     let ups = upsamplingFrom f (a .value .opening) s (a .«upsampling_at») in
-    let channels = words (blendingFrom f (a .value .opening) (a .value .crop) (b .value .blending .mode) s (b .«blending_at»)) in
+    let channels = words (blendingFrom f (a .value .opening) (a .value .placement) (b .value .blending .mode) s (b .«blending_at»)) in
     let many : length ups ≡ f .extra = times-length (f .extra) 0 _ s (a .«upsampling_at») in
     let more : length channels ≡ 4 * f .extra = words-length _ ∙ ap (λ (n : ℕ). 4 * n) (times-length (f .extra) 0 _ s (b .«blending_at»)) in
     record {
@@ -179,7 +179,7 @@ module _ (f : Facts) (s : List ℕ) (a : FrontRead) (b : BackRead) (upsampling u
 
   pub given-read : (w e : Cursor)
       → Arrayed (u32 upsamplings) (sentUpsampling f (a .value .opening)) (f .extra) 1 s (a .«upsampling_at») w upsampling upsampling'
-      → Extras (shown (a .value .opening)) (f .extra) (coversImage f (a .value .crop)) (byColour (b .value .blending .mode)) s (b .«blending_at») e blending blending'
+      → Extras (shown (a .value .opening)) (f .extra) (coversImage f (a .value .placement)) (byColour (b .value .blending .mode)) s (b .«blending_at») e blending blending'
       → Given f s a b upsampling upsampling' blending blending'
   given-read w e wu we = record { upsampled = wu .words; blended = we .content }
 
@@ -193,7 +193,7 @@ module _ (f : Facts) (s : List ℕ) (a : FrontRead) (b : BackRead) (upsampling u
 -- the record of what was read
 pub assembled : (f : Facts) (a : Front) (b : Back) (k : FrameType) (e : Encoding) (ch : ℕ) (x y : ℤ) (i : BlendingInfo) (full r : Bool)
     → k ≡ frameType (a .opening .«frame_type») → e ≡ encoding (a .opening .encoding) → ch ≡ colorChannels f (a .opening)
-    → x ≡ signed (a .crop .x0) → y ≡ signed (a .crop .y0) → i ≡ blendingInfo (b .blending) → full ≡ coversImage f (a .crop) → r ≡ (eqb (b .blending .mode) 0 && full)
+    → x ≡ signed (a .placement .x0) → y ≡ signed (a .placement .y0) → i ≡ blendingInfo (b .blending) → full ≡ coversImage f (a .placement) → r ≡ (eqb (b .blending .mode) 0 && full)
     → _≡_ {A = FrameHeader} (record {
       «frame_type» = k;
       encoding = e;
@@ -202,16 +202,16 @@ pub assembled : (f : Facts) (a : Front) (b : Back) (k : FrameType) (e : Encoding
       «encoded_color_channels» = ch;
       «jpeg_upsampling» = a .opening .jpeg0 ∷ a .opening .jpeg1 ∷ a .opening .jpeg2 ∷ [];
       upsampling = a .opening .upsampling;
-      «group_size_shift» = a .quant .«group_size_shift»;
-      «x_qm_scale» = a .quant .«x_qm_scale»;
-      «b_qm_scale» = a .quant .«b_qm_scale»;
+      «group_size_shift» = a .scales .«group_size_shift»;
+      «x_qm_scale» = a .scales .«x_qm_scale»;
+      «b_qm_scale» = a .scales .«b_qm_scale»;
       passes = a .passes;
-      «lf_level» = a .crop .«lf_level»;
-      «have_crop» = eqb (a .crop .«have_crop») 1;
+      «lf_level» = a .placement .«lf_level»;
+      «have_crop» = eqb (a .placement .«have_crop») 1;
       x0 = x;
       y0 = y;
-      width = a .crop .width;
-      height = a .crop .height;
+      width = a .placement .width;
+      height = a .placement .height;
       «blending_info» = i;
       duration = b .closing .duration;
       timecode = b .closing .timecode;

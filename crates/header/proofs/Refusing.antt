@@ -11,12 +11,12 @@ use Rattle.bits.proofs.Numbered.{Numbered, Known, of-both, read-known, numbered
 use Rattle.filter.proofs.Refusing.{restoration-numbered}
 use Rattle.header.specs.declared.Facts.{Facts}
 use Rattle.header.specs.declared.opening.Opening.{Opening}
-use Rattle.header.specs.declared.shape.Crop.{Crop}
+use Rattle.header.specs.declared.shape.Placement.{Placement}
 use Rattle.header.specs.declared.blending.Decider.{Decider}
 use Rattle.header.specs.declared.entry.HeaderAnswer.{HeaderAnswer}
 use Rattle.header.specs.Arrays.{element, array}
 use Rattle.header.specs.Opening.{opening}
-use Rattle.header.specs.Shape.{passes, quant, crop}
+use Rattle.header.specs.Shape.{passes, scales, placement}
 use Rattle.header.specs.Blending.{blending}
 use Rattle.header.specs.Closing.{closing}
 use Rattle.header.specs.Header.{front, back, header}
@@ -30,9 +30,9 @@ array-numbered : {R : Type 0} (k : Codec) (limit count d : ℕ) (col : R → ℕ
 unfolding element Numbered
 array-numbered k limit count d col = numbered-times count 0 (element k limit d col) (λ i v. tt)
 
-quant-numbered : (f : Facts) (o : Opening) → Numbered (quant f o)
-unfolding quant Numbered
-quant-numbered f o = λ shift x b. tt
+scales-numbered : (f : Facts) (o : Opening) → Numbered (scales f o)
+unfolding scales Numbered
+scales-numbered f o = λ shift x b. tt
 
 passes-numbered : (on : Bool) → Numbered (passes on)
 unfolding passes Numbered
@@ -42,9 +42,9 @@ passes-numbered on =
     numbered-bind _ _ (array-numbered _ _ 4 0 _) (λ downsample.
     numbered-bind _ _ (array-numbered _ _ 4 0 _) (λ last. tt)))
 
-crop-numbered : (f : Facts) (o : Opening) → Numbered (crop f o)
-unfolding crop Numbered
-crop-numbered f o = λ level cropped x y w h. tt
+placement-numbered : (f : Facts) (o : Opening) → Numbered (placement f o)
+unfolding placement Numbered
+placement-numbered f o = λ level cropped x y w h. tt
 
 blending-numbered : (on extra full : Bool) (d : Decider) → Numbered (blending on extra full d)
 unfolding blending Numbered
@@ -59,11 +59,11 @@ unfolding front Numbered
 front-numbered f =
     numbered-inside _ _ _ (opening-numbered f) (λ o.
     numbered-bind _ _ (array-numbered _ _ _ 1 _) (λ ups.
-    numbered-inside _ _ _ (quant-numbered f o) (λ q.
+    numbered-inside _ _ _ (scales-numbered f o) (λ q.
     numbered-inside _ _ _ (passes-numbered _) (λ p.
-    numbered-inside _ _ _ (crop-numbered f o) (λ c. tt)))))
+    numbered-inside _ _ _ (placement-numbered f o) (λ c. tt)))))
 
-back-numbered : (f : Facts) (o : Opening) (p : Crop) → Numbered (back f o p)
+back-numbered : (f : Facts) (o : Opening) (p : Placement) → Numbered (back f o p)
 unfolding back Numbered
 back-numbered f o p =
     numbered-inside _ _ _ (blending-numbered _ _ _ _) (λ colour.
@@ -77,7 +77,7 @@ header-numbered : (f : Facts) → Numbered (header f)
 unfolding header Numbered
 header-numbered f =
     numbered-bind _ _ (front-numbered f) (λ b.
-    numbered-bind _ _ (back-numbered f (b .front .opening) (b .front .crop)) (λ e. tt))
+    numbered-bind _ _ (back-numbered f (b .front .opening) (b .front .placement)) (λ e. tt))
 
 pub judged-known : (n : ℕ) (f : Facts) (name upsampling blending : ℕ) → Known (judged n f name upsampling blending)
 unfolding judged

@@ -17,15 +17,15 @@ use Rattle.header.specs.declared.Facts.{Facts}
 use Rattle.header.specs.declared.opening.Opening.{Opening}
 use Rattle.header.specs.declared.opening.OpeningRead.{OpeningRead}
 use Rattle.header.specs.declared.shape.PassesRead.{PassesRead}
-use Rattle.header.specs.declared.shape.QuantRead.{QuantRead}
-use Rattle.header.specs.declared.shape.Crop.{Crop}
-use Rattle.header.specs.declared.shape.CropRead.{CropRead}
+use Rattle.header.specs.declared.shape.ScalesRead.{ScalesRead}
+use Rattle.header.specs.declared.shape.Placement.{Placement}
+use Rattle.header.specs.declared.shape.PlacementRead.{PlacementRead}
 use Rattle.header.specs.declared.blending.Blending.{Blending}
 use Rattle.header.specs.declared.blending.BlendingRead.{BlendingRead}
 use Rattle.header.specs.declared.closing.ClosingRead.{ClosingRead}
 use Rattle.header.specs.Arrays.{array, Arrayed}
 use Rattle.header.specs.Opening.{opening, openingRead, upsamplings}
-use Rattle.header.specs.Shape.{passes, passesRead, quant, quantRead, crop, cropRead}
+use Rattle.header.specs.Shape.{passes, passesRead, scales, scalesRead, placement, placementRead}
 use Rattle.header.specs.Blending.{coversImage, resets, byOwn, byColour, blending, blendingRead, extras, Extras}
 use Rattle.header.specs.Closing.{closing, closingRead}
 use Rattle.header.specs.Header.{Header, Begun, Ended, sentUpsampling, shown, front, back, Fronted, Backed}
@@ -52,15 +52,15 @@ channels-any g t (suc n) i s c =
     ∙ ap (λ (x : Out (List Blending)). record { value = o .value ∷ x .value; next = x .next }) (channels-any g t n (suc i) s (o .next))
     ∙ sym (times-first n i (λ j. t) s c o refl)
 
-pub front-law : (s : List ℕ) (f : Facts) (b : Cursor) (a : OpeningRead) (y : Cursor) (w w' : List ℕ) (q : QuantRead) (p : PassesRead) (c : CropRead)
+pub front-law : (s : List ℕ) (f : Facts) (b : Cursor) (a : OpeningRead) (y : Cursor) (w w' : List ℕ) (q : ScalesRead) (p : PassesRead) (c : PlacementRead)
     → b ≡ start 0
     → a ≡ openingRead (read (opening f) s b)
     → Arrayed (u32 upsamplings) (sentUpsampling f (a .value)) (f .extra) 1 s (a .next) y w w'
-    → q ≡ quantRead (read (quant f (a .value)) s y)
+    → q ≡ scalesRead (read (scales f (a .value)) s y)
     → p ≡ passesRead (read (passes (eqb (a .value .«all_default») 0 && not (eqb (a .value .«frame_type») 2))) s (q .next))
-    → c ≡ cropRead (read (crop f (a .value)) s (p .next))
+    → c ≡ placementRead (read (placement f (a .value)) s (p .next))
     → Fronted f s (record {
-      value = record { opening = a .value; quant = q .value; passes = p .value; crop = c .value };
+      value = record { opening = a .value; scales = q .value; passes = p .value; placement = c .value };
       «upsampling_at» = a .next;
       next = c .next;
     }) w w'
@@ -68,17 +68,17 @@ unfolding front read
 front-law s f b a y w w' q p c pb pa pu pq pp pc =
     let ups = read (array (u32 upsamplings) (sentUpsampling f (a .value)) (f .extra) 1 (λ (x : List ℕ) (i : ℕ). 0)) s (a .next) .value in
     let is : read (front f) s (start 0)
-    ≡ record { value = record { front = record { opening = a .value; quant = q .value; passes = p .value; crop = c .value }; upsampling = ups }; next = c .next } =
+    ≡ record { value = record { front = record { opening = a .value; scales = q .value; passes = p .value; placement = c .value }; upsampling = ups }; next = c .next } =
     then-within (λ h. h .front .opening) (opening f) _ s (start 0) (record { value = a .value; next = a .next }) (ap (λ (r : OpeningRead). record { value = r .value; next = r .next }) (rw pb at pa))
     ∙ read-then (array (u32 upsamplings) (sentUpsampling f (a .value)) (f .extra) 1 (λ h i. getD (h .upsampling) i 1)) _ s (a .next) (record { value = ups; next = y })
     (array-passed (u32 upsamplings) (sentUpsampling f (a .value)) (f .extra) 1 (λ (h : Header) (i : ℕ). getD (h .upsampling) i 1) s (a .next) y w w' pu)
-    ∙ then-within (λ h. h .front .quant) (quant f (a .value)) _ s y (record { value = q .value; next = q .next }) (ap (λ (r : QuantRead). record { value = r .value; next = r .next }) pq)
+    ∙ then-within (λ h. h .front .scales) (scales f (a .value)) _ s y (record { value = q .value; next = q .next }) (ap (λ (r : ScalesRead). record { value = r .value; next = r .next }) pq)
     ∙ then-within (λ h. h .front .passes) (passes (eqb (a .value .«all_default») 0 && not (eqb (a .value .«frame_type») 2))) _ s (q .next) (record { value = p .value; next = p .next })
     (ap (λ (r : PassesRead). record { value = r .value; next = r .next }) pp)
-    ∙ then-within (λ h. h .front .crop) (crop f (a .value)) _ s (p .next) (record { value = c .value; next = c .next }) (ap (λ (r : CropRead). record { value = r .value; next = r .next }) pc) in
+    ∙ then-within (λ h. h .front .placement) (placement f (a .value)) _ s (p .next) (record { value = c .value; next = c .next }) (ap (λ (r : PlacementRead). record { value = r .value; next = r .next }) pc) in
     record { value = ap (λ (o : Out Begun). o .value .front) is; upsampling = ap (λ (o : Out Begun). o .value .upsampling) is; next = ap (λ (o : Out Begun). o .next) is; kept = pu .words }
 
-pub back-law : (s : List ℕ) (c : Cursor) (f : Facts) (o : Opening) (p : Crop) (b : BlendingRead) (x : Cursor) (w w' : List ℕ) (e : ClosingRead) (n : Cursor) (r : FilterRead) (z : Cursor)
+pub back-law : (s : List ℕ) (c : Cursor) (f : Facts) (o : Opening) (p : Placement) (b : BlendingRead) (x : Cursor) (w w' : List ℕ) (e : ClosingRead) (n : Cursor) (r : FilterRead) (z : Cursor)
     → b ≡ blendingRead (read (blending (shown o) (not (eqb (f .extra) 0)) (coversImage f p) byOwn) s c)
     → Extras (shown o) (f .extra) (coversImage f p) (byColour (b .value .mode)) s (b .next) x w w'
     → e ≡ closingRead (read (closing f o (resets (b .value .mode) (coversImage f p))) s x)

@@ -13,7 +13,7 @@ use Rattle.bits.specs.Refusals.{pick}
 use Rattle.bits.specs.Codec.{u, bool, u32, cases, val, plus, signed}
 use Rattle.bits.specs.Table.{Table, Out, ends, row, times, read}
 use Rattle.header.specs.declared.Facts.{Facts}
-use Rattle.header.specs.declared.shape.Crop.{Crop}
+use Rattle.header.specs.declared.shape.Placement.{Placement}
 use Rattle.header.specs.declared.blending.Blending.{Blending}
 use Rattle.header.specs.declared.blending.BlendingRead.{BlendingRead}
 use Rattle.header.specs.declared.blending.Decider.{Decider}
@@ -31,7 +31,7 @@ unfoldable pub coversSide : ℕ → ℕ → ℕ → Bool
 coversSide n size image = leZ (signed n) (pos 0) && leZ (pos image) (signed n +ℤ pos size)
 
 -- no crop, or a frame that covers the image
-unfoldable pub coversImage : Facts → Crop → Bool
+unfoldable pub coversImage : Facts → Placement → Bool
 coversImage f c = eqb (c .«have_crop») 0 || (coversSide (c .x0) (c .width) (f .width) && coversSide (c .y0) (c .height) (f .height))
 
 -- a frame resets the canvas with mode Replace where it covers the image

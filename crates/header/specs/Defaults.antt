@@ -28,9 +28,9 @@ defaultFront f = record {
     jpeg2 = 0;
     upsampling = 1;
   };
-  quant = record { «group_size_shift» = 1; «x_qm_scale» = pick (f .xyb) 3 2; «b_qm_scale» = 2 };
+  scales = record { «group_size_shift» = 1; «x_qm_scale» = pick (f .xyb) 3 2; «b_qm_scale» = 2 };
   passes = record { «num_passes» = 1; «num_ds» = 0; shift = replicate 10 0; downsample = replicate 4 0; «last_pass» = replicate 4 0 };
-  crop = record { «lf_level» = 0; «have_crop» = 0; x0 = 0; y0 = 0; width = f .width; height = f .height };
+  placement = record { «lf_level» = 0; «have_crop» = 0; x0 = 0; y0 = 0; width = f .width; height = f .height };
 }
 
 -- mode Replace, the last frame, no name, both default filters

@@ -58,12 +58,12 @@ kept before h new buffer = pick (eqb (refusalOf before h .number) 0) (sets buffe
 pub record Kept (f : Facts) (s : List ℕ) (a : FrontRead) (b : BackRead) (ups channels : List ℕ) : Type 0 where
   pub room : (length ups ≡ 8) × (length channels ≡ 32)
   pub upsampled : f .extra ≤ 8 → take (f .extra) ups ≡ upsamplingFrom f (a .value .opening) s (a .«upsampling_at»)
-  pub blended : f .extra ≤ 8 → take (4 * f .extra) channels ≡ words (blendingFrom f (a .value .opening) (a .value .crop) (b .value .blending .mode) s (b .«blending_at»))
+  pub blended : f .extra ≤ 8 → take (4 * f .extra) channels ≡ words (blendingFrom f (a .value .opening) (a .value .placement) (b .value .blending .mode) s (b .«blending_at»))
 
 -- the extra channels' words in front of the lent buffers
 pub record Given (f : Facts) (s : List ℕ) (a : FrontRead) (b : BackRead) (upsampling upsampling' blending blending' : List ℕ) : Type 0 where
   pub upsampled : upsampling' ≡ sets upsampling 0 (upsamplingFrom f (a .value .opening) s (a .«upsampling_at»))
-  pub blended : blending' ≡ sets blending 0 (words (blendingFrom f (a .value .opening) (a .value .crop) (b .value .blending .mode) s (b .«blending_at»)))
+  pub blended : blending' ≡ sets blending 0 (words (blendingFrom f (a .value .opening) (a .value .placement) (b .value .blending .mode) s (b .«blending_at»)))
 
 -- what is answered of a header that was read in two parts: the record, and the arrays in front of the lent buffers
 pub record Filled (f : Facts) (s : List ℕ) (a : FrontRead) (b : BackRead) (r : HeaderAnswer) (name name' upsampling upsampling' blending blending' : List ℕ) : Type 0 where

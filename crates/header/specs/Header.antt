@@ -14,7 +14,7 @@ use Rattle.bits.specs.Extensions.{extensions}
 use Rattle.filter.specs.Filter.{restoration}
 use Rattle.header.specs.declared.Facts.{Facts}
 use Rattle.header.specs.declared.opening.Opening.{Opening}
-use Rattle.header.specs.declared.shape.Crop.{Crop}
+use Rattle.header.specs.declared.shape.Placement.{Placement}
 use Rattle.header.specs.declared.blending.Blending.{Blending}
 use Rattle.header.specs.declared.parts.Front.{Front}
 use Rattle.header.specs.declared.parts.FrontRead.{FrontRead}
@@ -23,7 +23,7 @@ use Rattle.header.specs.declared.parts.BackRead.{BackRead}
 use Rattle.types.specs.Types.{flagged}
 use Rattle.header.specs.Arrays.{array}
 use Rattle.header.specs.Opening.{opening, upsamplings}
-use Rattle.header.specs.Shape.{passes, quant, crop}
+use Rattle.header.specs.Shape.{passes, scales, placement}
 use Rattle.header.specs.Blending.{coversImage, resets, byOwn, byColour, blending, extras, words}
 use Rattle.header.specs.Closing.{closing}
 
@@ -56,10 +56,10 @@ unfoldable pub front : Facts → Table Header Begun
 front f =
     bind (within (λ h. h .front .opening) (opening f)) λ o.
     bind (array (u32 upsamplings) (sentUpsampling f o) (f .extra) 1 (λ h i. getD (h .upsampling) i 1)) λ ups.
-    bind (within (λ h. h .front .quant) (quant f o)) λ q.
+    bind (within (λ h. h .front .scales) (scales f o)) λ q.
     bind (within (λ h. h .front .passes) (passes (eqb (o .«all_default») 0 && not (eqb (o .«frame_type») 2)))) λ p.
-    bind (within (λ h. h .front .crop) (crop f o)) λ c.
-    ends (record { front = record { opening = o; quant = q; passes = p; crop = c }; upsampling = ups })
+    bind (within (λ h. h .front .placement) (placement f o)) λ c.
+    ends (record { front = record { opening = o; scales = q; passes = p; placement = c }; upsampling = ups })
 
 -- what the second part hands on
 pub record Ended : Type 0 where
@@ -68,7 +68,7 @@ pub record Ended : Type 0 where
   pub name : List ℕ
 
 -- blending_info to extensions, by what was opened and where the frame lies
-unfoldable pub back : Facts → Opening → Crop → Table Header Ended
+unfoldable pub back : Facts → Opening → Placement → Table Header Ended
 back f o p =
     let full : Bool = coversImage f p in
     let on : Bool = eqb (o .«all_default») 0 in
@@ -84,14 +84,14 @@ back f o p =
 unfoldable pub header : Facts → Table Header Header
 header f =
     bind (front f) λ b.
-    bind (back f (b .front .opening) (b .front .crop)) λ e.
+    bind (back f (b .front .opening) (b .front .placement)) λ e.
     ends (record { front = b .front; upsampling = b .upsampling; back = e .back; blending = e .blending; name = e .name })
 
 -- the extra channels from where their upsampling begins, and from where their blending does
 abbrev pub upsamplingFrom : Facts → Opening → List ℕ → Cursor → List ℕ
 upsamplingFrom f o s c = read (array (u32 upsamplings) (sentUpsampling f o) (f .extra) 1 (λ (x : List ℕ) (i : ℕ). 0)) s c .value
 
-abbrev pub blendingFrom : Facts → Opening → Crop → ℕ → List ℕ → Cursor → List Blending
+abbrev pub blendingFrom : Facts → Opening → Placement → ℕ → List ℕ → Cursor → List Blending
 blendingFrom f o p mode s c = read (extras (shown o) (f .extra) (coversImage f p) (byColour mode)) s c .value
 
 -- the parts as they are read, where their arrays begin, and what a lent table holds of the extra channels
@@ -102,7 +102,7 @@ pub record Fronted (f : Facts) (s : List ℕ) (r : FrontRead) (before after : Li
   pub next : read (front f) s (start 0) .next ≡ r .next
   pub kept : after ≡ sets before 0 (upsamplingFrom f (r .value .opening) s (r .«upsampling_at»))
 
-pub record Backed (f : Facts) (o : Opening) (p : Crop) (s : List ℕ) (c : Cursor) (r : BackRead) (before after : List ℕ) : Type 0 where
+pub record Backed (f : Facts) (o : Opening) (p : Placement) (s : List ℕ) (c : Cursor) (r : BackRead) (before after : List ℕ) : Type 0 where
   pub value : read (back f o p) s c .value .back ≡ r .value
   pub blending : read (back f o p) s c .value .blending ≡ blendingFrom f o p (r .value .blending .mode) s (r .«blending_at»)
   pub name : read (back f o p) s c .value .name

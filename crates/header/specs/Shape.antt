@@ -12,10 +12,10 @@ use Rattle.header.specs.declared.Facts.{Facts}
 use Rattle.header.specs.declared.opening.Opening.{Opening}
 use Rattle.header.specs.declared.shape.Passes.{Passes}
 use Rattle.header.specs.declared.shape.PassesRead.{PassesRead}
-use Rattle.header.specs.declared.shape.Quant.{Quant}
-use Rattle.header.specs.declared.shape.QuantRead.{QuantRead}
-use Rattle.header.specs.declared.shape.Crop.{Crop}
-use Rattle.header.specs.declared.shape.CropRead.{CropRead}
+use Rattle.header.specs.declared.shape.Scales.{Scales}
+use Rattle.header.specs.declared.shape.ScalesRead.{ScalesRead}
+use Rattle.header.specs.declared.shape.Placement.{Placement}
+use Rattle.header.specs.declared.shape.PlacementRead.{PlacementRead}
 use Rattle.header.specs.Arrays.{array}
 use Rattle.header.specs.Opening.{upsamplings}
 
@@ -46,8 +46,8 @@ passes on =
     ends (record { «num_passes» = n; «num_ds» = ds; shift = shift; downsample = downsample; «last_pass» = last })
 
 -- «group_size_shift» is read for Modular, the two scales for XYB and VarDct; unread, «x_qm_scale» is 3 there and 2 otherwise
-unfoldable pub quant : Facts → Opening → Table Quant Quant
-quant f o =
+unfoldable pub scales : Facts → Opening → Table Scales Scales
+scales f o =
     let xyb : Bool = f .xyb && eqb (o .encoding) 0 in
     let scaled : Bool = eqb (o .«all_default») 0 && xyb in
     row (eqb (o .encoding) 1) (u 2) 1 (λ r. r .«group_size_shift») λ shift.
@@ -56,8 +56,8 @@ quant f o =
     ends (record { «group_size_shift» = shift; «x_qm_scale» = x; «b_qm_scale» = b })
 
 -- frame type 1 is the LF frame, 2 the reference-only frame; with no crop the frame has the image's size
-unfoldable pub crop : Facts → Opening → Table Crop Crop
-crop f o =
+unfoldable pub placement : Facts → Opening → Table Placement Placement
+placement f o =
     let lf : Bool = eqb (o .«frame_type») 1 in
     row lf (u 2) 0 (λ r. r .«lf_level» - 1) λ level.
     row (eqb (o .«all_default») 0 && not lf) bool 0 (λ r. r .«have_crop») λ cropped.
@@ -71,8 +71,8 @@ crop f o =
 abbrev pub passesRead : Out Passes → PassesRead
 passesRead o = record { value = o .value; next = o .next }
 
-abbrev pub quantRead : Out Quant → QuantRead
-quantRead o = record { value = o .value; next = o .next }
+abbrev pub scalesRead : Out Scales → ScalesRead
+scalesRead o = record { value = o .value; next = o .next }
 
-abbrev pub cropRead : Out Crop → CropRead
-cropRead o = record { value = o .value; next = o .next }
+abbrev pub placementRead : Out Placement → PlacementRead
+placementRead o = record { value = o .value; next = o .next }

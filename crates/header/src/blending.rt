@@ -1,7 +1,7 @@
 // The bundle `BlendingInfo`, of the colour channels and of each extra channel, and whether a frame resets the canvas.
 use crate::Facts;
 use crate::arrays::put;
-use crate::shape::Crop;
+use crate::shape::Placement;
 use bits::Choice;
 use bits::Choices;
 use bits::Cursor;
@@ -84,7 +84,7 @@ fn covers(n: u32, size: u32, image: u32) -> bool
 }
 
 // No crop, or a frame that covers the image.
-pub fn covers_image(f: Facts, c: Crop) -> bool
+pub fn covers_image(f: Facts, c: Placement) -> bool
     ensures { λ r. ⌜ r ≡ coversImage f c ⌝ }
 {
     let across = covers(c.x0, c.width, f.width);

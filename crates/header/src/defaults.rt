@@ -11,9 +11,9 @@ use crate::opening::Opening;
 use crate::opening::upsampling_choices;
 use crate::parts::Back;
 use crate::parts::Front;
-use crate::shape::Crop;
 use crate::shape::Passes;
-use crate::shape::Quant;
+use crate::shape::Placement;
+use crate::shape::Scales;
 use crate::shape::either_number;
 use bits::Cursor;
 use bits::accepted;
@@ -42,7 +42,7 @@ fn default_front(f: Facts) -> Front
             jpeg2: 0,
             upsampling: 1,
         },
-        quant: Quant {
+        scales: Scales {
             group_size_shift: 1,
             x_qm_scale,
             b_qm_scale: 2,
@@ -54,7 +54,7 @@ fn default_front(f: Facts) -> Front
             downsample,
             last_pass,
         },
-        crop: Crop {
+        placement: Placement {
             lf_level: 0,
             have_crop: 0,
             x0: 0,

@@ -77,9 +77,9 @@ pub fn assemble(f: Facts, a: Front, b: Back) -> FrameHeader
     ensures { λ r. ⌜ r ≡ frameHeader f a b ⌝ }
 {
     let o = a.opening;
-    let q = a.quant;
+    let q = a.scales;
     let passes = a.passes;
-    let crop = a.crop;
+    let placement = a.placement;
     let blending = b.blending;
     let closing = b.closing;
     let restoration_filter = b.filter;
@@ -88,10 +88,10 @@ pub fn assemble(f: Facts, a: Front, b: Back) -> FrameHeader
     let flags = FrameFlags(o.flags);
     let encoded_color_channels = color_channels(f, o);
     let jpeg_upsampling = [o.jpeg0, o.jpeg1, o.jpeg2];
-    let x0 = unpack_signed(crop.x0);
-    let y0 = unpack_signed(crop.y0);
+    let x0 = unpack_signed(placement.x0);
+    let y0 = unpack_signed(placement.y0);
     let info = blending_info(blending);
-    let full = covers_image(f, crop);
+    let full = covers_image(f, placement);
     let resets_canvas = both(blending.mode == 0, full);
     FrameHeader {
         frame_type,
@@ -105,12 +105,12 @@ pub fn assemble(f: Facts, a: Front, b: Back) -> FrameHeader
         x_qm_scale: q.x_qm_scale,
         b_qm_scale: q.b_qm_scale,
         passes,
-        lf_level: crop.lf_level,
-        have_crop: crop.have_crop == 1,
+        lf_level: placement.lf_level,
+        have_crop: placement.have_crop == 1,
         x0,
         y0,
-        width: crop.width,
-        height: crop.height,
+        width: placement.width,
+        height: placement.height,
         blending_info: info,
         duration: closing.duration,
         timecode: closing.timecode,
@@ -270,7 +270,7 @@ fn give_channels(
         b.blending_at,
         is_shown(o),
         f.extra,
-        covers_image(f, front.crop),
+        covers_image(f, front.placement),
         Decider {
             own: false,
             mode: colour.mode,
@@ -330,9 +330,9 @@ pub fn read_frame_header(
     let a = read_front(s, f, &mut ups);
     let front = a.value;
     let o = front.opening;
-    let crop = front.crop;
+    let placement = front.placement;
     let mut channels = [0u32; 32];
-    let b = read_back(s, a.next, f, o, crop, &mut channels);
+    let b = read_back(s, a.next, f, o, placement, &mut channels);
     let end = b.next;
     let fault = end.fault;
     if fault.number != 0 {

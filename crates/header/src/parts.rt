@@ -12,13 +12,13 @@ use crate::closing::read_closing;
 use crate::opening::Opening;
 use crate::opening::read_opening;
 use crate::opening::upsampling_choices;
-use crate::shape::Crop;
 use crate::shape::Passes;
-use crate::shape::Quant;
+use crate::shape::Placement;
+use crate::shape::Scales;
 use crate::shape::either_number;
-use crate::shape::read_crop;
 use crate::shape::read_passes_if;
-use crate::shape::read_quant;
+use crate::shape::read_placement;
+use crate::shape::read_scales;
 use bits::Cursor;
 use bits::begin;
 use bits::both;
@@ -34,9 +34,9 @@ ghost use Rattle.header.specs.Header.{sentUpsampling, shown, Fronted, Ba
 // all_default to the frame's size.
 pub struct Front {
     pub opening: Opening,
-    pub quant: Quant,
+    pub scales: Scales,
     pub passes: Passes,
-    pub crop: Crop,
+    pub placement: Placement,
 }
 
 pub struct FrontRead {
@@ -93,23 +93,23 @@ pub fn read_front(s: &[u8], f: Facts, upsampling: &mut [u32]) -> FrontRead
         1,
         upsampling,
     );
-    let q = read_quant(s, u, f, opening);
+    let q = read_scales(s, u, f, opening);
     let p = read_passes_if(
         s,
         q.next,
         both(opening.all_default == 0, opening.frame_type != 2),
     );
-    let c = read_crop(s, p.next, f, opening);
-    let quant = q.value;
+    let c = read_placement(s, p.next, f, opening);
+    let scales = q.value;
     let passes = p.value;
-    let crop = c.value;
+    let placement = c.value;
     let next = c.next;
     FrontRead {
         value: Front {
             opening,
-            quant,
+            scales,
             passes,
-            crop,
+            placement,
         },
         upsampling_at,
         next,
@@ -122,12 +122,12 @@ pub fn read_back(
     c: Cursor,
     f: Facts,
     o: Opening,
-    crop: Crop,
+    placement: Placement,
     channels: &mut [u32],
 ) -> BackRead
-    ensures { λ r. ⌜ Backed f o crop (now (s .entry)) c r (now (channels .entry)) (now (channels .exit)) ⌝ }
+    ensures { λ r. ⌜ Backed f o placement (now (s .entry)) c r (now (channels .entry)) (now (channels .exit)) ⌝ }
 {
-    let full = covers_image(f, crop);
+    let full = covers_image(f, placement);
     let shown = is_shown(o);
     let b = read_blending_if(
         s,

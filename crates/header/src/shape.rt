@@ -15,7 +15,7 @@ ghost use mathlib.Core.Path.{_≡_};
 ghost use Prim.Native.Nat.{_-_};
 ghost use Rattle.bits.specs.Refusals.{pick};
 ghost use Rattle.bits.specs.Table.{read};
-ghost use Rattle.header.specs.Shape.{passCounts, downsamples, lastPasses, places, passes, passesRead, quant, quantRead, crop, cropRead};
+ghost use Rattle.header.specs.Shape.{passCounts, downsamples, lastPasses, places, passes, passesRead, scales, scalesRead, placement, placementRead};
 
 pub struct Passes {
     pub num_passes: u32,
@@ -31,19 +31,19 @@ pub struct PassesRead {
 }
 
 // The group size and the quantizer scales.
-pub struct Quant {
+pub struct Scales {
     pub group_size_shift: u32,
     pub x_qm_scale: u32,
     pub b_qm_scale: u32,
 }
 
-pub struct QuantRead {
-    pub value: Quant,
+pub struct ScalesRead {
+    pub value: Scales,
     pub next: Cursor,
 }
 
 // The level of an LF frame, and where a frame lies; x0 and y0 as they are read, unsigned.
-pub struct Crop {
+pub struct Placement {
     pub lf_level: u32,
     pub have_crop: u32,
     pub x0: u32,
@@ -52,8 +52,8 @@ pub struct Crop {
     pub height: u32,
 }
 
-pub struct CropRead {
-    pub value: Crop,
+pub struct PlacementRead {
+    pub value: Placement,
     pub next: Cursor,
 }
 
@@ -154,8 +154,8 @@ pub fn read_passes_if(s: &[u8], c: Cursor, on: bool) -> PassesRead
     }
 }
 
-pub fn read_quant(s: &[u8], c: Cursor, f: Facts, o: Opening) -> QuantRead
-    ensures { λ r. ⌜ r ≡ quantRead (read (quant f o) (now (s .entry)) c) ⌝ }
+pub fn read_scales(s: &[u8], c: Cursor, f: Facts, o: Opening) -> ScalesRead
+    ensures { λ r. ⌜ r ≡ scalesRead (read (scales f o) (now (s .entry)) c) ⌝ }
 {
     let modular = o.encoding == 1;
     let xyb = both(f.xyb, o.encoding == 0);
@@ -164,8 +164,8 @@ pub fn read_quant(s: &[u8], c: Cursor, f: Facts, o: Opening) -> QuantRead
     let x = read_bits_if(s, shift.next, scaled, 3, either_number(xyb, 3, 2));
     let b = read_bits_if(s, x.next, scaled, 3, 2);
     let next = b.next;
-    QuantRead {
-        value: Quant {
+    ScalesRead {
+        value: Scales {
             group_size_shift: shift.value,
             x_qm_scale: x.value,
             b_qm_scale: b.value,
@@ -174,8 +174,8 @@ pub fn read_quant(s: &[u8], c: Cursor, f: Facts, o: Opening) -> QuantRead
     }
 }
 
-pub fn read_crop(s: &[u8], c: Cursor, f: Facts, o: Opening) -> CropRead
-    ensures { λ r. ⌜ r ≡ cropRead (read (crop f o) (now (s .entry)) c) ⌝ }
+pub fn read_placement(s: &[u8], c: Cursor, f: Facts, o: Opening) -> PlacementRead
+    ensures { λ r. ⌜ r ≡ placementRead (read (placement f o) (now (s .entry)) c) ⌝ }
 {
     let is_lf = o.frame_type == 1;
     let level = read_bits_if(s, c, is_lf, 2, 0);
@@ -188,8 +188,8 @@ pub fn read_crop(s: &[u8], c: Cursor, f: Facts, o: Opening) -> CropRead
     let w = read_u32_if(s, y.next, crop, place_choices(), f.width);
     let h = read_u32_if(s, w.next, crop, place_choices(), f.height);
     let next = h.next;
-    CropRead {
-        value: Crop {
+    PlacementRead {
+        value: Placement {
             lf_level,
             have_crop: cropped.value,
             x0: x.value,

@@ -17,13 +17,13 @@ use Rattle.grid.proofs.Accepted.{and-parts, sound}
 use Rattle.grid.proofs.Rounding.{side-exact}
 use Rattle.grid.proofs.Answers.{judge-known, judge-unknown}
 use Rattle.order.specs.declared.SectionAnswer.{SectionAnswer}
-use Rattle.kinds.specs.Kinds.{numbersOf, sectionNumber}
-use Rattle.kinds.specs.Lookups.{sampleKind, hasSample, sectionOfSample}
-use Rattle.kinds.proofs.Counts.{counts}
-use Rattle.kinds.proofs.OfKinds.{number-below, number-pass, number-first}
-use Rattle.kinds.proofs.Asking.{sample-parts, sample-all, sample-group, sample-has, of-sample-no, of-sample-yes}
-use Rattle.kinds.specs.declared.TocGroupKind.{TocGroupKind}
-use Rattle.kinds.specs.declared.TocGroupKind.the-variants.{All, GroupPass}
+use Rattle.sections.specs.Kinds.{numbersOf, sectionNumber}
+use Rattle.sections.specs.Lookups.{sampleKind, hasSample, sectionOfSample}
+use Rattle.sections.proofs.Counts.{counts}
+use Rattle.sections.proofs.OfKinds.{number-below, number-pass, number-first}
+use Rattle.sections.proofs.Asking.{sample-parts, sample-all, sample-group, sample-has, of-sample-no, of-sample-yes}
+use Rattle.sections.specs.declared.TocGroupKind.{TocGroupKind}
+use Rattle.sections.specs.declared.TocGroupKind.the-variants.{All, GroupPass}
 use Rattle.order.proofs.Entries.{split}
 use Rattle.layout.specs.declared.Layout.{Layout}
 use Rattle.layout.specs.declared.LayoutAnswer.{LayoutAnswer}

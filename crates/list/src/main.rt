@@ -5,7 +5,7 @@ fn main() {
     let n = io::read_full(0, &mut input);
     // 1,026 lines of at most 256 bytes
     let mut out = [0u8; 262656];
-    let answer = lister::list_frame(&input[..n], &mut out);
+    let answer = listing_job::list_frame(&input[..n], &mut out);
     let length = answer.length;
     io::write_all(1, &out[..length]);
 }

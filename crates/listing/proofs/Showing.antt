@@ -14,9 +14,9 @@ use Rattle.grid.specs.declared.Placed.{Placed}
 use Rattle.grid.specs.Measured.{gridOf}
 use Rattle.grid.specs.Groups.{told, rectFor}
 use Rattle.order.specs.Sums.{sumTo}
-use Rattle.kinds.specs.declared.KindNumbers.{KindNumbers}
-use Rattle.kinds.specs.declared.KindAnswer.{KindAnswer}
-use Rattle.kinds.specs.Kinds.{numbersOf, kindOf}
+use Rattle.sections.specs.declared.KindNumbers.{KindNumbers}
+use Rattle.sections.specs.declared.KindAnswer.{KindAnswer}
+use Rattle.sections.specs.Kinds.{numbersOf, kindOf}
 use Rattle.listing.specs.declared.rows.Row.{Row}
 use Rattle.listing.specs.Listed.{rectBy, rowAt}
 

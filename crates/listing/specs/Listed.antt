@@ -13,9 +13,9 @@ use Rattle.grid.specs.Measured.{gridOf}
 use Rattle.grid.specs.Groups.{rectFor}
 use Rattle.order.specs.Order.{checked}
 use Rattle.order.specs.Sums.{sumTo}
-use Rattle.kinds.specs.declared.TocGroupKind.{TocGroupKind}
-use Rattle.kinds.specs.declared.KindNumbers.{KindNumbers}
-use Rattle.kinds.specs.Kinds.{numbersOf, kindOf}
+use Rattle.sections.specs.declared.TocGroupKind.{TocGroupKind}
+use Rattle.sections.specs.declared.KindNumbers.{KindNumbers}
+use Rattle.sections.specs.Kinds.{numbersOf, kindOf}
 use Rattle.listing.specs.declared.rows.Row.{Row}
 use Rattle.listing.specs.Text.{heading, rowsFrom, totalText}
 

@@ -5,8 +5,8 @@ use crate::put::put_name;
 use crate::put::put_number;
 use grid::Frame;
 use grid::Rect;
-use kinds::KindNumbers;
 use order::SectionNumber;
+use sections::KindNumbers;
 ghost use mathlib.Core.Path.{_≡_};
 ghost use Prim.Native.Nat.{_+_, _*_, _≤_};
 ghost use lib.ListN.{getD};
@@ -85,9 +85,9 @@ fn rect_of(f: Frame, k: KindNumbers) -> Rect
 fn row_at(f: Frame, offsets: &[u64], sizes: &[u32], order: &[u32], i: u32) -> Row
     ensures { λ r. ⌜ r ≡ rowAt f (now (offsets .entry)) (now (sizes .entry)) (now (order .entry)) i ⌝ }
 {
-    let answer = kinds::kind_of(f, SectionNumber(i));
+    let answer = sections::kind_of(f, SectionNumber(i));
     let kind = answer.kind;
-    let k = kinds::kind_numbers(kind);
+    let k = sections::kind_numbers(kind);
     let rect = rect_of(f, k);
     let sent = word(order, i);
     let offset = long_word(offsets, i);

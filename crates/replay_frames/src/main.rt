@@ -195,15 +195,15 @@ fn sections(f: grid::Frame, count: u32, offsets: &[u64], sizes: &[u32], order: &
 }
 
 fn section(f: grid::Frame, n: order::SectionNumber, offsets: &[u64], sizes: &[u32], order: &[u32]) {
-    let a = kinds::kind_of(f, n);
+    let a = sections::kind_of(f, n);
     let kind = a.kind;
-    let k = kinds::kind_numbers(kind);
+    let k = sections::kind_numbers(kind);
     print(k.kind as u64);
     print(k.pass_idx as u64);
     print(k.group_idx as u64);
-    let t = kinds::sent_of_section(f, order, n);
+    let t = sections::sent_of_section(f, order, n);
     print(t.sent.0 as u64);
-    let p = kinds::section_at(f, offsets, sizes, n);
+    let p = sections::section_at(f, offsets, sizes, n);
     print(p.offset);
     print(p.size as u64);
     io::write_all(1, b"\n");

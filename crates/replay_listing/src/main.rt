@@ -67,7 +67,7 @@ fn with_room(r: &[u8], s: &[u8], out: &mut [u8]) {
 }
 
 fn work(s: &[u8], out: &mut [u8]) {
-    let a = lister::list_frame(s, out);
+    let a = listing_job::list_frame(s, out);
     print(a.length as u64);
     print(a.refusal.number as u64);
     print(a.refusal.place);

@@ -217,20 +217,20 @@ fn show(t: toc::TocRead) {
     }
 }
 
-fn kind(k: u32, pass_idx: u32, group_idx: u32) -> kinds::TocGroupKind {
+fn kind(k: u32, pass_idx: u32, group_idx: u32) -> sections::TocGroupKind {
     if k == 0 {
-        return kinds::TocGroupKind::All;
+        return sections::TocGroupKind::All;
     }
     if k == 1 {
-        return kinds::TocGroupKind::LfGlobal;
+        return sections::TocGroupKind::LfGlobal;
     }
     if k == 2 {
-        return kinds::TocGroupKind::LfGroup(group_idx);
+        return sections::TocGroupKind::LfGroup(group_idx);
     }
     if k == 3 {
-        return kinds::TocGroupKind::HfGlobal;
+        return sections::TocGroupKind::HfGlobal;
     }
-    kinds::TocGroupKind::GroupPass {
+    sections::TocGroupKind::GroupPass {
         pass_idx,
         group_idx,
     }
@@ -243,15 +243,15 @@ fn find(r: &[u8], f: grid::Frame) {
         replay::word(r, 92),
         replay::word(r, 96),
     );
-    section(kinds::section_of_kind(f, k));
-    let a = kinds::kind_of(f, order::SectionNumber(replay::word(r, 72)));
+    section(sections::section_of_kind(f, k));
+    let a = sections::kind_of(f, order::SectionNumber(replay::word(r, 72)));
     let k = a.kind;
-    let n = kinds::kind_numbers(k);
+    let n = sections::kind_numbers(k);
     print(a.refusal.number as u64);
     print(n.kind as u64);
     print(n.pass_idx as u64);
     print(n.group_idx as u64);
-    section(kinds::section_of_sample(
+    section(sections::section_of_sample(
         f,
         replay::word(r, 76),
         replay::word(r, 80),
@@ -267,14 +267,14 @@ fn section(a: order::SectionAnswer) {
 // A section's offset and size, its sent number, and the section of a sent number.
 fn look(r: &[u8], f: grid::Frame, offsets: &[u64], sizes: &[u32], order: &[u32], inverse: &[u32]) {
     let n = replay::word(r, 72);
-    let p = kinds::section_at(f, offsets, sizes, order::SectionNumber(n));
+    let p = sections::section_at(f, offsets, sizes, order::SectionNumber(n));
     print(p.refusal.number as u64);
     print(p.offset);
     print(p.size as u64);
-    let t = kinds::sent_of_section(f, order, order::SectionNumber(n));
+    let t = sections::sent_of_section(f, order, order::SectionNumber(n));
     print(t.refusal.number as u64);
     print(t.sent.0 as u64);
-    section(kinds::section_of_sent(f, inverse, order::SentNumber(n)));
+    section(sections::section_of_sent(f, inverse, order::SentNumber(n)));
 }
 
 fn mixed(sum: u64, word: u64) -> u64 {

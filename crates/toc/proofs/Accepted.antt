@@ -32,7 +32,7 @@ use Rattle.toc.specs.declared.TocRead.the-variants.{Table, OrderNeeded, 
 use Rattle.toc.specs.Sizes.{sizeRows, sentBefore, offsetsBy, sizesBy}
 use Rattle.toc.specs.Walks.{sizeAt, padded, walked}
 use Rattle.toc.specs.Reading.{Tables, roomy, judged, Reading, tocOf, sizedAnswer, firstReading, secondReading, tablesOf, written, after}
-use Rattle.kinds.proofs.Counts.{Counts, counts}
+use Rattle.sections.proofs.Counts.{Counts, counts}
 use Rattle.toc.proofs.Walking.{size-small, rows-read}
 use Rattle.toc.proofs.Judging.{Room, Fair}
 use Rattle.toc.proofs.Entering.{fair, roomed, first-refused, first-needed, first-is, second-refused, second-bad, second-is, lent-order}

@@ -26,16 +26,16 @@ use Rattle.order.proofs.Inverse.{inverse-order, inverse-back, inverse-there}
 use Rattle.order.proofs.Tables.{getD-tabulate}
 use Rattle.toc.specs.declared.Toc.{Toc}
 use Rattle.toc.specs.declared.TocRead.the-variants.{Table}
-use Rattle.kinds.specs.declared.TocGroupKind.{TocGroupKind}
-use Rattle.kinds.specs.declared.TocGroupKind.the-variants.{All, GroupPass}
-use Rattle.kinds.specs.declared.KindAnswer.{KindAnswer}
-use Rattle.kinds.specs.Kinds.{numbersOf, sectionNumber, kindOf}
+use Rattle.sections.specs.declared.TocGroupKind.{TocGroupKind}
+use Rattle.sections.specs.declared.TocGroupKind.the-variants.{All, GroupPass}
+use Rattle.sections.specs.declared.KindAnswer.{KindAnswer}
+use Rattle.sections.specs.Kinds.{numbersOf, sectionNumber, kindOf}
 use Rattle.toc.specs.Sizes.{sentBefore, offsetsBy, sizesBy}
 use Rattle.toc.specs.Reading.{Tables, tables, Reading, firstReading, secondReading, Done}
-use Rattle.kinds.specs.Lookups.{sampleKind, sectionOfSample}
-use Rattle.kinds.proofs.OfKinds.{number-below, of-kind-yes}
-use Rattle.kinds.proofs.KindsBack.{kind-of-section-of}
-use Rattle.kinds.proofs.Asking.{Sample, sample-all, sample-group, sample-has}
+use Rattle.sections.specs.Lookups.{sampleKind, sectionOfSample}
+use Rattle.sections.proofs.OfKinds.{number-below, of-kind-yes}
+use Rattle.sections.proofs.KindsBack.{kind-of-section-of}
+use Rattle.sections.proofs.Asking.{Sample, sample-all, sample-group, sample-has}
 use Rattle.toc.proofs.Accepted.{Accepted, first-accepted, second-accepted, offset-at, size-at, order-at, inverse-at}
 use Rattle.toc.proofs.Found.{sample-answer}
 use Rattle.toc.proofs.Bytes.{Spot, spot, spot-end, spot-once, sum-cut}

@@ -21,14 +21,14 @@ use Rattle.order.specs.Tables.{filled}
 use Rattle.order.proofs.Tables.{filled-length}
 use Rattle.toc.specs.declared.Toc.{Toc}
 use Rattle.toc.specs.declared.TocRead.{TocRead}
-use Rattle.kinds.specs.declared.TocGroupKind.the-variants.{GroupPass}
-use Rattle.kinds.specs.declared.SectionPlace.{SectionPlace}
-use Rattle.kinds.specs.Kinds.{numbersOf, sectionNumber}
+use Rattle.sections.specs.declared.TocGroupKind.the-variants.{GroupPass}
+use Rattle.sections.specs.declared.SectionPlace.{SectionPlace}
+use Rattle.sections.specs.Kinds.{numbersOf, sectionNumber}
 use Rattle.toc.specs.Sizes.{sentBefore}
 use Rattle.toc.specs.Reading.{Tables, Reading, tablesOf, after, Done}
-use Rattle.kinds.specs.Lookups.{sampleKind, hasSample, sectionOfSample, placeOf}
-use Rattle.kinds.proofs.OfKinds.{number-pass}
-use Rattle.kinds.proofs.Asking.{Sample, sample-group, of-sample-yes, place-judged, place-yes}
+use Rattle.sections.specs.Lookups.{sampleKind, hasSample, sectionOfSample, placeOf}
+use Rattle.sections.proofs.OfKinds.{number-pass}
+use Rattle.sections.proofs.Asking.{Sample, sample-group, of-sample-yes, place-judged, place-yes}
 use Rattle.toc.proofs.Accepted.{Accepted, offset-at, size-at}
 
 -- any two answers that an entry's promise allows are equal, word by word

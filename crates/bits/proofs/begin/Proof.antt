@@ -6,11 +6,8 @@ use Rattle.bits.specs.declared.Cursor.{Cursor}
 use Rattle.bits.proofs.begin.Statement.{statement}
 use Rattle.bits.proofs.begin.Tie as tie
 
-accepted-requires : tie.Need-accepted-requires
-accepted-requires c κs = search needs
-
 returns : tie.Need-returns
 returns c = let at-place : Refusal → Cursor = λ f. record { at = c .before .args .place; fault = f } in ap at-place (c .accepted .ensures)
 
 pub begin-spec : {M : Type 1} → statement M
-begin-spec = tie.close (tie.spec accepted-requires returns)
+begin-spec = tie.close (tie.spec (λ c κs. search needs) returns)

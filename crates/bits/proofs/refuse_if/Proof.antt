@@ -5,9 +5,6 @@ use Rattle.bits.proofs.Tables.{failed-not, failed-at}
 use Rattle.bits.proofs.refuse_if.Statement.{statement}
 use Rattle.bits.proofs.refuse_if.Tie as tie
 
-idle-requires : tie.Need-idle-requires
-idle-requires c κs = search needs
-
 returns : tie.Need-returns
 returns c = failed-not _ _ _ _ _ (c .before .idle .ensures) (c .if1 .taken)
 
@@ -18,4 +15,4 @@ returns-3 : tie.Need-returns-3
 returns-3 c = failed-at _ _ _ _ _ (c .before .before .idle .ensures) _ (omega arith) (c .before .if1 .left)
 
 pub refuse-if-spec : {M : Type 1} → statement M
-refuse-if-spec = tie.close (tie.spec idle-requires returns returns-2 returns-3)
+refuse-if-spec = tie.close (tie.spec (λ c κs. search needs) returns returns-2 returns-3)

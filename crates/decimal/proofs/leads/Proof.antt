@@ -10,11 +10,8 @@ returns c = leads-none (c .before .args .s .now) (c .if1 .taken)
 returns-2 : tie.Need-returns-2
 returns-2 c = leads-one (c .before .before .args .s .now) (c .if2 .taken)
 
-shared-slice-read-result : tie.Need-shared-slice-read-result
-shared-slice-read-result c = search needs
-
 returns-3 : tie.Need-returns-3
 returns-3 c = leads-many (c .before .before .before .args .s .now) (c .before .before .if1 .left) (c .before .if2 .left)
 
 pub leads-spec : {M : Type 1} → statement M
-leads-spec = tie.close (tie.spec returns returns-2 shared-slice-read-result returns-3)
+leads-spec = tie.close (tie.spec returns returns-2 (λ c. search needs) returns-3)

@@ -4,14 +4,8 @@ use Rattle.filter.proofs.FilterLaws.{both-disabled}
 use Rattle.filter.proofs.disabled_filter.Statement.{statement}
 use Rattle.filter.proofs.disabled_filter.Tie as tie
 
-gabor-disabled-requires : tie.Need-gabor-disabled-requires
-gabor-disabled-requires c κs = search needs
-
-epf-disabled-requires : tie.Need-epf-disabled-requires
-epf-disabled-requires c κs = search needs
-
 returns : tie.Need-returns
 returns c = both-disabled _ _ (c .before .gabor-disabled .ensures) (c .epf-disabled .ensures)
 
 pub disabled-filter-spec : {M : Type 1} → statement M
-disabled-filter-spec = tie.close (tie.spec gabor-disabled-requires epf-disabled-requires returns)
+disabled-filter-spec = tie.close (tie.spec (λ c κs. search needs) (λ c κs. search needs) returns)

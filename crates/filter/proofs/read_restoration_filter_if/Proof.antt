@@ -4,26 +4,8 @@ use Rattle.filter.proofs.FilterLaws.{filter-is, filter-unread}
 use Rattle.filter.proofs.read_restoration_filter_if.Statement.{statement}
 use Rattle.filter.proofs.read_restoration_filter_if.Tie as tie
 
-read-bool-if-requires : tie.Need-read-bool-if-requires
-read-bool-if-requires c κs = search needs
-
-both-requires : tie.Need-both-requires
-both-requires c κs = search needs
-
-default-filter-requires : tie.Need-default-filter-requires
-default-filter-requires c κs = search needs
-
 returns : tie.Need-returns
 returns c = filter-unread (c .before .before .before .before .before .before .before .args .s .now) _ _ _ _ _ _ (c .before .before .before .before .before .read-bool-if .ensures) (c .before .before .before .both .ensures) (c .before .before .if1 .taken) (c .before .default-filter .ensures)
-
-read-gabor-if-requires : tie.Need-read-gabor-if-requires
-read-gabor-if-requires c κs = search needs
-
-read-epf-if-requires : tie.Need-read-epf-if-requires
-read-epf-if-requires c κs = search needs
-
-read-extensions-if-requires : tie.Need-read-extensions-if-requires
-read-extensions-if-requires c κs = search needs
 
 returns-2 : tie.Need-returns-2
 returns-2 c = filter-is (c .before .before .before .before .before .before .before .before .before .before .args .s .now) _ _ _ _ _ _ _ _ (c .before .before .before .before .before .before .before .before .read-bool-if .ensures) (c .before .before .before .before .before .before .both .ensures) (c .before .before .before .before .read-gabor-if .ensures) (c .before .before .before .read-epf-if .ensures) (c .before .before .read-extensions-if .ensures)
@@ -32,11 +14,11 @@ pub read-restoration-filter-if-spec : {M : Type 1} → statement M
 read-restoration-filter-if-spec =
     tie.close
     (tie.spec
-    read-bool-if-requires
-    both-requires
-    default-filter-requires
+    (λ c κs. search needs)
+    (λ c κs. search needs)
+    (λ c κs. search needs)
     returns
-    read-gabor-if-requires
-    read-epf-if-requires
-    read-extensions-if-requires
+    (λ c κs. search needs)
+    (λ c κs. search needs)
+    (λ c κs. search needs)
     returns-2)

@@ -5,14 +5,8 @@ use Rattle.grid.proofs.Answers.{asked}
 use Rattle.grid.proofs.color_sample_height.Statement.{statement}
 use Rattle.grid.proofs.color_sample_height.Tie as tie
 
-measure-requires : tie.Need-measure-requires
-measure-requires c κs = search needs
-
-told-requires : tie.Need-told-requires
-told-requires c κs = search needs
-
 returns : tie.Need-returns
 returns c = asked (λ g. told g (g .height)) (c .told .ensures) (c .before .measure .ensures)
 
 pub color-sample-height-spec : {M : Type 1} → statement M
-color-sample-height-spec = tie.close (tie.spec measure-requires told-requires returns)
+color-sample-height-spec = tie.close (tie.spec (λ c κs. search needs) (λ c κs. search needs) returns)

@@ -38,32 +38,8 @@ mul-lf-side c =
     let h = good _ (c .before .before .pre .0) .shift in
     record { fits = omega (arith, side-exact _ h, side-bounds _ h) }
 
-div-ceil-requires : tie.Need-div-ceil-requires
-div-ceil-requires c κs = search needs
-
-div-ceil-requires-2 : tie.Need-div-ceil-requires-2
-div-ceil-requires-2 c κs = search needs
-
-div-ceil-requires-3 : tie.Need-div-ceil-requires-3
-div-ceil-requires-3 c κs = search needs
-
-div-ceil-requires-4 : tie.Need-div-ceil-requires-4
-div-ceil-requires-4 c κs = search needs
-
-count-requires : tie.Need-count-requires
-count-requires c κs = search needs
-
-count-requires-2 : tie.Need-count-requires-2
-count-requires-2 c κs = search needs
-
-cast-sections-of : tie.Need-cast-sections-of
-cast-sections-of c = search needs
-
 sections-of-requires : tie.Need-sections-of-requires
 sections-of-requires c κs = counts-small (counts (c .before))
-
-refused-grid-requires : tie.Need-refused-grid-requires
-refused-grid-requires c κs = search needs
 
 returns : tie.Need-returns
 returns c = too-many (counts (c .before .before .before .before)) _ (c .before .before .sections-of .ensures) _ (c .before .if1 .taken) (c .refused-grid .ensures)
@@ -73,12 +49,6 @@ cast-t16 c = record { fits = omega (arith, counts-few (counts (c .before .before
 
 cast-t17 : tie.Need-cast-t17
 cast-t17 c = record { fits = omega (arith, counts-few (counts (c .before .before .before)) _ (c .before .sections-of .ensures) (c .if1 .left)) }
-
-cast-t18 : tie.Need-cast-t18
-cast-t18 c = search needs
-
-accepted-requires : tie.Need-accepted-requires
-accepted-requires c κs = search needs
 
 returns-2 : tie.Need-returns-2
 returns-2 c = all-laid (counts (c .before .before .before .before)) _ (c .before .before .sections-of .ensures) _ (c .before .if1 .left) (c .accepted .ensures)
@@ -91,18 +61,18 @@ counted-spec =
     sample-requires-2
     shl-side
     mul-lf-side
-    div-ceil-requires
-    div-ceil-requires-2
-    div-ceil-requires-3
-    div-ceil-requires-4
-    count-requires
-    count-requires-2
-    cast-sections-of
+    (λ c κs. search needs)
+    (λ c κs. search needs)
+    (λ c κs. search needs)
+    (λ c κs. search needs)
+    (λ c κs. search needs)
+    (λ c κs. search needs)
+    (λ c. search needs)
     sections-of-requires
-    refused-grid-requires
+    (λ c κs. search needs)
     returns
     cast-t16
     cast-t17
-    cast-t18
-    accepted-requires
+    (λ c. search needs)
+    (λ c κs. search needs)
     returns-2)

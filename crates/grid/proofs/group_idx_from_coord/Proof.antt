@@ -6,9 +6,6 @@ use Rattle.grid.proofs.Lookups.{index-own, index-no, index-yes, index-l
 use Rattle.grid.proofs.group_idx_from_coord.Statement.{statement}
 use Rattle.grid.proofs.group_idx_from_coord.Tie as tie
 
-measure-requires : tie.Need-measure-requires
-measure-requires c κs = search needs
-
 returns : tie.Need-returns
 returns c = index-own (c .before .before .before .before .args .f) _ (c .before .before .before .measure .ensures) _ _ (c .if1 .taken)
 
@@ -24,12 +21,6 @@ div-row : tie.Need-div-row
 div-row c =
     let s = sound _ _ (c .before .before .before .measure .ensures) (c .if1 .left) in
     omega (arith, s .side, s .side-is)
-
-both-requires : tie.Need-both-requires
-both-requires c κs = search needs
-
-judge-requires : tie.Need-judge-requires
-judge-requires c κs = search needs
 
 returns-2 : tie.Need-returns-2
 returns-2 c = index-no (c .before .before .before .before .before .before .before .before .before .before .args .f) _ (c .before .before .before .before .before .before .before .before .before .measure .ensures) _ _ (c .before .before .judge .ensures) _ (sound _ _ (c .before .before .before .before .before .before .before .before .before .measure .ensures) (c .before .before .before .before .before .before .if1 .left) .side-is) (c .before .before .before .before .before .before .before .before .before .before .args .x) (c .before .before .before .before .before .before .before .before .before .before .args .y) (c .before .before .before .both .ensures) (c .if2 .taken)
@@ -47,13 +38,13 @@ pub group-idx-from-coord-spec : {M : Type 1} → statement M
 group-idx-from-coord-spec =
     tie.close
     (tie.spec
-    measure-requires
+    (λ c κs. search needs)
     returns
     shl-side
     div-column
     div-row
-    both-requires
-    judge-requires
+    (λ c κs. search needs)
+    (λ c κs. search needs)
     returns-2
     mul-t14
     add-t15

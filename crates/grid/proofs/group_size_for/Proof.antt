@@ -5,14 +5,8 @@ use Rattle.grid.specs.Groups.{sizeOf}
 use Rattle.grid.proofs.group_size_for.Statement.{statement}
 use Rattle.grid.proofs.group_size_for.Tie as tie
 
-group-rect-requires : tie.Need-group-rect-requires
-group-rect-requires c κs = search needs
-
-size-of-requires : tie.Need-size-of-requires
-size-of-requires c κs = search needs
-
 returns : tie.Need-returns
 returns c = c .size-of .ensures ∙ ap sizeOf (c .before .group-rect .ensures)
 
 pub group-size-for-spec : {M : Type 1} → statement M
-group-size-for-spec = tie.close (tie.spec group-rect-requires size-of-requires returns)
+group-size-for-spec = tie.close (tie.spec (λ c κs. search needs) (λ c κs. search needs) returns)

@@ -5,14 +5,8 @@ use Rattle.grid.proofs.Answers.{asked}
 use Rattle.grid.proofs.is_group_collides_region.Statement.{statement}
 use Rattle.grid.proofs.is_group_collides_region.Tie as tie
 
-measure-requires : tie.Need-measure-requires
-measure-requires c κs = search needs
-
-touch-for-requires : tie.Need-touch-for-requires
-touch-for-requires c κs = search needs
-
 returns : tie.Need-returns
 returns c = asked (λ g. touchFor g (g .side) (c .before .before .args .group-idx) (c .before .before .args .region)) (c .touch-for .ensures) (c .before .measure .ensures)
 
 pub is-group-collides-region-spec : {M : Type 1} → statement M
-is-group-collides-region-spec = tie.close (tie.spec measure-requires touch-for-requires returns)
+is-group-collides-region-spec = tie.close (tie.spec (λ c κs. search needs) (λ c κs. search needs) returns)

@@ -5,15 +5,6 @@ use Rattle.grid.proofs.Lookups.{lf-index-le, allowed, lf-no, lf-yes}
 use Rattle.grid.proofs.lf_group_idx_from_group_idx.Statement.{statement}
 use Rattle.grid.proofs.lf_group_idx_from_group_idx.Tie as tie
 
-measure-requires : tie.Need-measure-requires
-measure-requires c κs = search needs
-
-has-requires : tie.Need-has-requires
-has-requires c κs = search needs
-
-judge-requires : tie.Need-judge-requires
-judge-requires c κs = search needs
-
 returns : tie.Need-returns
 returns c = lf-no (c .before .before .before .before .before .args .f) _ (c .before .before .before .before .measure .ensures) _ _ (c .before .before .judge .ensures) _ (c .before .before .before .has .ensures) (c .if1 .taken)
 
@@ -36,9 +27,9 @@ pub lf-group-idx-from-group-idx-spec : {M : Type 1} → statement M
 lf-group-idx-from-group-idx-spec =
     tie.close
     (tie.spec
-    measure-requires
-    has-requires
-    judge-requires
+    (λ c κs. search needs)
+    (λ c κs. search needs)
+    (λ c κs. search needs)
     returns
     rem-across
     div-down

@@ -6,20 +6,8 @@ use Rattle.grid.proofs.Steps.{judged-bad, judged-zero, judged-counted}
 use Rattle.grid.proofs.measure.Statement.{statement}
 use Rattle.grid.proofs.measure.Tie as tie
 
-is-good-requires : tie.Need-is-good-requires
-is-good-requires c κs = search needs
-
-refused-grid-requires : tie.Need-refused-grid-requires
-refused-grid-requires c κs = search needs
-
 returns : tie.Need-returns
 returns c = judged-bad (c .before .before .before .args .f) _ _ (c .before .before .is-good .ensures) (c .before .if1 .taken) (c .refused-grid .ensures)
-
-either-requires : tie.Need-either-requires
-either-requires c κs = search needs
-
-refused-grid-requires-2 : tie.Need-refused-grid-requires-2
-refused-grid-requires-2 c κs = search needs
 
 returns-2 : tie.Need-returns-2
 returns-2 c = judged-zero (c .before .before .before .before .before .before .before .args .f) _ _ _ (c .before .before .before .before .before .before .is-good .ensures) (c .before .before .before .before .before .if1 .left) (c .before .before .either .ensures) (c .before .if2 .taken) (c .refused-grid2 .ensures)
@@ -34,11 +22,11 @@ pub measure-spec : {M : Type 1} → statement M
 measure-spec =
     tie.close
     (tie.spec
-    is-good-requires
-    refused-grid-requires
+    (λ c κs. search needs)
+    (λ c κs. search needs)
     returns
-    either-requires
-    refused-grid-requires-2
+    (λ c κs. search needs)
+    (λ c κs. search needs)
     returns-2
     counted-requires
     returns-3)

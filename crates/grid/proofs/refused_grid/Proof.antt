@@ -4,11 +4,8 @@ use Rattle.grid.proofs.Steps.{grid-refused}
 use Rattle.grid.proofs.refused_grid.Statement.{statement}
 use Rattle.grid.proofs.refused_grid.Tie as tie
 
-refused-requires : tie.Need-refused-requires
-refused-requires c κs = search needs
-
 returns : tie.Need-returns
 returns c = grid-refused _ _ (c .refused .ensures)
 
 pub refused-grid-spec : {M : Type 1} → statement M
-refused-grid-spec = tie.close (tie.spec refused-requires returns)
+refused-grid-spec = tie.close (tie.spec (λ c κs. search needs) returns)

@@ -4,21 +4,6 @@ use Rattle.grid.proofs.Steps.{sample-plain, sample-divided}
 use Rattle.grid.proofs.sample.Statement.{statement}
 use Rattle.grid.proofs.sample.Tie as tie
 
-mul-div : tie.Need-mul-div
-mul-div c = search needs
-
-shl-div : tie.Need-shl-div
-shl-div c = search needs
-
-div-ceil-requires : tie.Need-div-ceil-requires
-div-ceil-requires c κs = search needs
-
-div-ceil-requires-2 : tie.Need-div-ceil-requires-2
-div-ceil-requires-2 c κs = search needs
-
-div-ceil-requires-3 : tie.Need-div-ceil-requires-3
-div-ceil-requires-3 c κs = search needs
-
 returns : tie.Need-returns
 returns c = sample-plain _ _ _ (c .before .before .pre) _ (c .before .if1 .taken) (c .div-ceil .ensures)
 
@@ -29,10 +14,10 @@ pub sample-spec : {M : Type 1} → statement M
 sample-spec =
     tie.close
     (tie.spec
-    mul-div
-    shl-div
-    div-ceil-requires
-    div-ceil-requires-2
-    div-ceil-requires-3
+    (λ c. search needs)
+    (λ c. search needs)
+    (λ c κs. search needs)
+    (λ c κs. search needs)
+    (λ c κs. search needs)
     returns
     returns-2)

@@ -5,9 +5,6 @@ use Rattle.grid.proofs.Answers.{sampled-yes, sampled-no}
 use Rattle.grid.proofs.sampled.Statement.{statement}
 use Rattle.grid.proofs.sampled.Tie as tie
 
-measure-requires : tie.Need-measure-requires
-measure-requires c κs = search needs
-
 sample-requires : tie.Need-sample-requires
 sample-requires c κs = accepted _ (rw (c .before .before .before .measure .ensures) at (c .if1 .taken)) .good .level
 
@@ -18,4 +15,4 @@ returns-2 : tie.Need-returns-2
 returns-2 c = sampled-no _ _ _ _ (c .before .before .before .measure .ensures) (c .if1 .left)
 
 pub sampled-spec : {M : Type 1} → statement M
-sampled-spec = tie.close (tie.spec measure-requires sample-requires returns returns-2)
+sampled-spec = tie.close (tie.spec (λ c κs. search needs) sample-requires returns returns-2)

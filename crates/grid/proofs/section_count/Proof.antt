@@ -5,14 +5,8 @@ use Rattle.grid.proofs.Answers.{asked}
 use Rattle.grid.proofs.section_count.Statement.{statement}
 use Rattle.grid.proofs.section_count.Tie as tie
 
-measure-requires : tie.Need-measure-requires
-measure-requires c κs = search needs
-
-told-requires : tie.Need-told-requires
-told-requires c κs = search needs
-
 returns : tie.Need-returns
 returns c = asked (λ g. told g (g .sections)) (c .told .ensures) (c .before .measure .ensures)
 
 pub section-count-spec : {M : Type 1} → statement M
-section-count-spec = tie.close (tie.spec measure-requires told-requires returns)
+section-count-spec = tie.close (tie.spec (λ c κs. search needs) (λ c κs. search needs) returns)

@@ -6,15 +6,6 @@ use Rattle.grid.proofs.Steps.{sections-one, sections-many}
 use Rattle.grid.proofs.sections_of.Statement.{statement}
 use Rattle.grid.proofs.sections_of.Tie as tie
 
-both-requires : tie.Need-both-requires
-both-requires c κs = search needs
-
-add-result : tie.Need-add-result
-add-result c = search needs
-
-add-result-2 : tie.Need-add-result-2
-add-result-2 c = search needs
-
 mul-result : tie.Need-mul-result
 mul-result c = record { fits = omega (arith, mul-le-mul-left (c .before .before .args .groups) (c .before .before .pre .2)) }
 
@@ -30,4 +21,4 @@ returns-2 c = sections-many _ _ _ _ (c .before .both .ensures) (c .if1 .left)
 pub sections-of-spec : {M : Type 1} → statement M
 sections-of-spec =
     tie.close
-    (tie.spec both-requires add-result add-result-2 mul-result add-result-3 returns returns-2)
+    (tie.spec (λ c κs. search needs) (λ c. search needs) (λ c. search needs) mul-result add-result-3 returns returns-2)

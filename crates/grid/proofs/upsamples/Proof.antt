@@ -4,9 +4,6 @@ use Rattle.grid.proofs.Steps.{by-bit, none-above}
 use Rattle.grid.proofs.upsamples.Statement.{statement}
 use Rattle.grid.proofs.upsamples.Tie as tie
 
-shr-result : tie.Need-shr-result
-shr-result c = search needs
-
 returns : tie.Need-returns
 returns c = by-bit (c .before .args .n) (c .if1 .taken)
 
@@ -14,4 +11,4 @@ returns-2 : tie.Need-returns-2
 returns-2 c = none-above (c .before .args .n) (c .if1 .left)
 
 pub upsamples-spec : {M : Type 1} → statement M
-upsamples-spec = tie.close (tie.spec shr-result returns returns-2)
+upsamples-spec = tie.close (tie.spec (λ c. search needs) returns returns-2)

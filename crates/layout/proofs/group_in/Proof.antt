@@ -7,20 +7,11 @@ use Rattle.layout.proofs.Laid.{index-small}
 use Rattle.layout.proofs.group_in.Statement.{statement}
 use Rattle.layout.proofs.group_in.Tie as tie
 
-shr-row : tie.Need-shr-row
-shr-row c = search needs
-
 cast-row : tie.Need-cast-row
 cast-row c = record { fits = omega (arith, div-le-self (c .args .y) (2 ^ c .args .l .power)) }
 
-shr-column : tie.Need-shr-column
-shr-column c = search needs
-
 cast-column : tie.Need-cast-column
 cast-column c = record { fits = omega (arith, div-le-self (c .args .x) (2 ^ c .args .l .power)) }
-
-cast-result : tie.Need-cast-result
-cast-result c = search needs
 
 mul-result : tie.Need-mul-result
 mul-result c = record { fits = omega (arith, index-small (c .before .args .x) (c .before .args .y) (c .before .args .l .columns) (2 ^ c .before .args .l .power) (search needs) (search needs) (search needs)) }
@@ -28,10 +19,7 @@ mul-result c = record { fits = omega (arith, index-small (c .before .args .x) (c
 add-result : tie.Need-add-result
 add-result c = record { fits = index-small (c .before .args .x) (c .before .args .y) (c .before .args .l .columns) (2 ^ c .before .args .l .power) (search needs) (search needs) (search needs) }
 
-returns : tie.Need-returns
-returns c = search needs
-
 pub group-in-spec : {M : Type 1} → statement M
 group-in-spec =
     tie.close
-    (tie.spec shr-row cast-row shr-column cast-column cast-result mul-result add-result returns)
+    (tie.spec (λ c. search needs) cast-row (λ c. search needs) cast-column (λ c. search needs) mul-result add-result (λ c. search needs))

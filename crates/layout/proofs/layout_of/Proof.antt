@@ -6,12 +6,6 @@ use Rattle.grid.proofs.Accepted.{sound}
 use Rattle.layout.proofs.layout_of.Statement.{statement}
 use Rattle.layout.proofs.layout_of.Tie as tie
 
-measure-requires : tie.Need-measure-requires
-measure-requires c κs = search needs
-
-nowhere-requires : tie.Need-nowhere-requires
-nowhere-requires c κs = search needs
-
 returns : tie.Need-returns
 returns c = layout-no (c .before .before .before .before .before .args .f) _ (c .before .before .before .before .measure .ensures) _ (c .nowhere .ensures) (c .before .if1 .taken)
 
@@ -22,4 +16,4 @@ returns-2 : tie.Need-returns-2
 returns-2 c = layout-yes (c .before .before .before .before .before .args .f) _ (c .before .before .before .before .measure .ensures) (c .before .if1 .left)
 
 pub layout-of-spec : {M : Type 1} → statement M
-layout-of-spec = tie.close (tie.spec measure-requires nowhere-requires returns add-t6 returns-2)
+layout-of-spec = tie.close (tie.spec (λ c κs. search needs) (λ c κs. search needs) returns add-t6 returns-2)

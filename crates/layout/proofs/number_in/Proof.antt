@@ -8,18 +8,6 @@ use Rattle.layout.proofs.number_in.Tie as tie
 returns : tie.Need-returns
 returns c = number-one (c .before .before .args .l) (c .before .before .args .pass) (c .before .before .args .group) (c .if1 .taken)
 
-cast-result : tie.Need-cast-result
-cast-result c = search needs
-
-add-result : tie.Need-add-result
-add-result c = search needs
-
-add-result-2 : tie.Need-add-result-2
-add-result-2 c = search needs
-
-cast-result-2 : tie.Need-cast-result-2
-cast-result-2 c = search needs
-
 mul-result : tie.Need-mul-result
 mul-result c = record { fits = omega (arith, number-small (c .before .before .before .before .args .l .«lf_groups») (c .before .before .before .before .args .pass) (c .before .before .before .before .args .l .passes) (c .before .before .before .before .args .l .groups) (c .before .before .before .before .args .group) (search needs) (search needs) (search needs) (c .before .before .before .before .pre .0) (c .before .before .before .before .pre .1)) }
 
@@ -37,10 +25,10 @@ number-in-spec =
     tie.close
     (tie.spec
     returns
-    cast-result
-    add-result
-    add-result-2
-    cast-result-2
+    (λ c. search needs)
+    (λ c. search needs)
+    (λ c. search needs)
+    (λ c. search needs)
     mul-result
     add-result-3
     add-result-4

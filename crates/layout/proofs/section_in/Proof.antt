@@ -5,29 +5,11 @@ use Rattle.layout.proofs.Laid.{outside, within, no-group, no-number, fo
 use Rattle.layout.proofs.section_in.Statement.{statement}
 use Rattle.layout.proofs.section_in.Tie as tie
 
-both-requires : tie.Need-both-requires
-both-requires c κs = search needs
-
-both-requires-2 : tie.Need-both-requires-2
-both-requires-2 c κs = search needs
-
-both-requires-3 : tie.Need-both-requires-3
-both-requires-3 c κs = search needs
-
-not-in-requires : tie.Need-not-in-requires
-not-in-requires c κs = search needs
-
 returns : tie.Need-returns
 returns c = outside (c .before .before .before .before .before .before .before .before .before .args .l) (c .before .before .before .before .before .before .before .before .before .args .x) (c .before .before .before .before .before .before .before .before .before .args .y) (c .before .before .before .before .before .before .before .before .before .args .pass) _ _ _ (c .before .before .before .before .before .before .both .ensures) (c .before .before .before .both2 .ensures) (c .before .before .both3 .ensures) (c .before .if1 .taken) _ (c .not-in .ensures)
 
 group-in-requires : tie.Need-group-in-requires
 group-in-requires c κs = within (c .before .before .before .before .before .before .before .before .args .l) (c .before .before .before .before .before .before .before .before .args .x) (c .before .before .before .before .before .before .before .before .args .y) (c .before .before .before .before .before .before .before .before .args .pass) _ _ _ (c .before .before .before .before .before .both .ensures) (c .before .before .both2 .ensures) (c .before .both3 .ensures) (c .if1 .left) .1
-
-cast-if2 : tie.Need-cast-if2
-cast-if2 c = search needs
-
-not-in-requires-2 : tie.Need-not-in-requires-2
-not-in-requires-2 c κs = search needs
 
 returns-2 : tie.Need-returns-2
 returns-2 c = no-group (c .before .before .before .before .before .before .before .before .before .before .before .before .args .l) (c .before .before .before .before .before .before .before .before .before .before .before .before .args .x) (c .before .before .before .before .before .before .before .before .before .before .before .before .args .y) (c .before .before .before .before .before .before .before .before .before .before .before .before .args .pass) _ _ _ (c .before .before .before .before .before .before .before .before .before .both .ensures) (c .before .before .before .before .before .before .both2 .ensures) (c .before .before .before .before .before .both3 .ensures) (c .before .before .before .before .if1 .left) _ (c .before .before .before .group-in .ensures) (c .before .if2 .taken) _ (c .not-in2 .ensures)
@@ -35,20 +17,8 @@ returns-2 c = no-group (c .before .before .before .before .before .before .befor
 number-in-requires : tie.Need-number-in-requires
 number-in-requires c κs = (within (c .before .before .before .before .before .before .before .before .before .before .before .args .l) (c .before .before .before .before .before .before .before .before .before .before .before .args .x) (c .before .before .before .before .before .before .before .before .before .before .before .args .y) (c .before .before .before .before .before .before .before .before .before .before .before .args .pass) _ _ _ (c .before .before .before .before .before .before .before .before .both .ensures) (c .before .before .before .before .before .both2 .ensures) (c .before .before .before .before .both3 .ensures) (c .before .before .before .if1 .left) .0, c .if2 .left)
 
-cast-if3 : tie.Need-cast-if3
-cast-if3 c = search needs
-
-not-in-requires-3 : tie.Need-not-in-requires-3
-not-in-requires-3 c κs = search needs
-
 returns-3 : tie.Need-returns-3
 returns-3 c = no-number (c .before .before .before .before .before .before .before .before .before .before .before .before .before .before .before .args .l) (c .before .before .before .before .before .before .before .before .before .before .before .before .before .before .before .args .x) (c .before .before .before .before .before .before .before .before .before .before .before .before .before .before .before .args .y) (c .before .before .before .before .before .before .before .before .before .before .before .before .before .before .before .args .pass) _ _ _ (c .before .before .before .before .before .before .before .before .before .before .before .before .both .ensures) (c .before .before .before .before .before .before .before .before .before .both2 .ensures) (c .before .before .before .before .before .before .before .before .both3 .ensures) (c .before .before .before .before .before .before .before .if1 .left) _ (c .before .before .before .before .before .before .group-in .ensures) (c .before .before .before .before .if2 .left) _ (c .before .before .before .number-in .ensures) (c .before .if3 .taken) _ (c .not-in3 .ensures)
-
-cast-section : tie.Need-cast-section
-cast-section c = search needs
-
-accepted-requires : tie.Need-accepted-requires
-accepted-requires c κs = search needs
 
 returns-4 : tie.Need-returns-4
 returns-4 c = found (c .before .before .before .before .before .before .before .before .before .before .before .before .before .before .before .args .l) (c .before .before .before .before .before .before .before .before .before .before .before .before .before .before .before .args .x) (c .before .before .before .before .before .before .before .before .before .before .before .before .before .before .before .args .y) (c .before .before .before .before .before .before .before .before .before .before .before .before .before .before .before .args .pass) _ _ _ (c .before .before .before .before .before .before .before .before .before .before .before .before .both .ensures) (c .before .before .before .before .before .before .before .before .before .both2 .ensures) (c .before .before .before .before .before .before .before .before .both3 .ensures) (c .before .before .before .before .before .before .before .if1 .left) _ (c .before .before .before .before .before .before .group-in .ensures) (c .before .before .before .before .if2 .left) _ (c .before .before .before .number-in .ensures) (c .before .if3 .left) _ (c .accepted .ensures)
@@ -57,19 +27,19 @@ pub section-in-spec : {M : Type 1} → statement M
 section-in-spec =
     tie.close
     (tie.spec
-    both-requires
-    both-requires-2
-    both-requires-3
-    not-in-requires
+    (λ c κs. search needs)
+    (λ c κs. search needs)
+    (λ c κs. search needs)
+    (λ c κs. search needs)
     returns
     group-in-requires
-    cast-if2
-    not-in-requires-2
+    (λ c. search needs)
+    (λ c κs. search needs)
     returns-2
     number-in-requires
-    cast-if3
-    not-in-requires-3
+    (λ c. search needs)
+    (λ c κs. search needs)
     returns-3
-    cast-section
-    accepted-requires
+    (λ c. search needs)
+    (λ c κs. search needs)
     returns-4)

@@ -4,9 +4,6 @@ use Rattle.listing.proofs.Texts.{text-whole}
 use Rattle.listing.proofs.whole_text.Statement.{statement}
 use Rattle.listing.proofs.whole_text.Tie as tie
 
-accepted-requires : tie.Need-accepted-requires
-accepted-requires c κs = search needs
-
 returns : tie.Need-returns
 returns c = text-whole _ _ (c .accepted .ensures)
 
@@ -14,5 +11,5 @@ pub whole-text-spec : {M : Type 1} → statement M
 whole-text-spec =
     tie.close
     (tie.spec
-    accepted-requires
+    (λ c κs. search needs)
     returns)

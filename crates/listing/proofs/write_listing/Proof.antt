@@ -5,56 +5,20 @@ use Rattle.listing.proofs.Texts.{write-own, write-short, write-bad, wri
 use Rattle.listing.proofs.write_listing.Statement.{statement}
 use Rattle.listing.proofs.write_listing.Tie as tie
 
-measure-requires : tie.Need-measure-requires
-measure-requires c κs = search needs
-
-refused-text-requires : tie.Need-refused-text-requires
-refused-text-requires c κs = search needs
-
 returns : tie.Need-returns
 returns c = write-own (c .before .before .before .before .before .before .before .before .before .args .f) _ (c .before .before .before .before .measure .ensures) (c .before .before .before .before .before .before .before .before .before .args .offsets .now) (c .before .before .before .before .before .before .before .before .before .args .sizes .now) (c .before .before .before .before .before .before .before .before .before .args .order .now) (c .before .before .before .before .before .before .before .before .before .args .out .now) _ (c .before .if1 .taken) (c .refused-text .ensures)
-
-cast-n : tie.Need-cast-n
-cast-n c = search needs
-
-slice-aggregate-put-listing : tie.Need-slice-aggregate-put-listing
-slice-aggregate-put-listing c = search needs
 
 put-listing-requires : tie.Need-put-listing-requires
 put-listing-requires c κs = sound (c .before .before .before .before .before .before .before .before .before .before .args .f) _ (c .before .before .before .before .before .measure .ensures) (c .before .before .if1 .left) .sections
 
-both-requires : tie.Need-both-requires
-both-requires c κs = search needs
-
-both-requires-2 : tie.Need-both-requires-2
-both-requires-2 c κs = search needs
-
-refused-requires : tie.Need-refused-requires
-refused-requires c κs = search needs
-
-refused-text-requires-2 : tie.Need-refused-text-requires-2
-refused-text-requires-2 c κs = search needs
-
 returns-2 : tie.Need-returns-2
 returns-2 c = write-short (c .before .before .before .before .before .before .before .before .before .before .before .before .before .before .before .before .before .args .f) _ (c .before .before .before .before .before .before .before .before .before .before .before .before .measure .ensures) (c .before .before .before .before .before .before .before .before .before .before .before .before .before .before .before .before .before .args .offsets .now) (c .before .before .before .before .before .before .before .before .before .before .before .before .before .before .before .before .before .args .sizes .now) (c .before .before .before .before .before .before .before .before .before .before .before .before .before .before .before .before .before .args .order .now) (c .before .before .before .before .before .before .before .before .before .before .before .before .before .before .before .before .before .args .out .now) (c .before .before .before .before .before .before .before .before .before .if1 .left) _ _ (c .before .before .before .before .both .ensures) (c .before .before .before .before .before .before .put-listing .ensures) (c .before .before .before .both2 .ensures) _ _ (c .before .before .if2 .taken) (c .before .refused .ensures) (c .refused-text2 .ensures)
-
-check-order-requires : tie.Need-check-order-requires
-check-order-requires c κs = search needs
-
-refused-text-requires-3 : tie.Need-refused-text-requires-3
-refused-text-requires-3 c κs = search needs
 
 returns-3 : tie.Need-returns-3
 returns-3 c = write-bad (c .before .before .before .before .before .before .before .before .before .before .before .before .before .before .before .before .before .before .before .args .f) _ (c .before .before .before .before .before .before .before .before .before .before .before .before .before .before .measure .ensures) (c .before .before .before .before .before .before .before .before .before .before .before .before .before .before .before .before .before .before .before .args .offsets .now) (c .before .before .before .before .before .before .before .before .before .before .before .before .before .before .before .before .before .before .before .args .sizes .now) (c .before .before .before .before .before .before .before .before .before .before .before .before .before .before .before .before .before .before .before .args .order .now) (c .before .before .before .before .before .before .before .before .before .before .before .before .before .before .before .before .before .before .before .args .out .now) (c .before .before .before .before .before .before .before .before .before .before .before .if1 .left) _ _ (c .before .before .before .before .before .before .both .ensures) (c .before .before .before .before .before .before .before .before .put-listing .ensures) (c .before .before .before .before .before .both2 .ensures) (c .before .before .before .before .if2 .left) _ (c .before .before .before .check-order .ensures) _ (c .before .if3 .taken) (c .refused-text3 .ensures)
 
 put-listing-requires-2 : tie.Need-put-listing-requires-2
 put-listing-requires-2 c κs = sound (c .before .before .before .before .before .before .before .before .before .before .before .before .before .before .before .before .before .before .before .args .f) _ (c .before .before .before .before .before .before .before .before .before .before .before .before .before .before .measure .ensures) (c .before .before .before .before .before .before .before .before .before .before .before .if1 .left) .sections
-
-whole-text-requires : tie.Need-whole-text-requires
-whole-text-requires c κs = search needs
-
-same-length : tie.Need-same-length
-same-length c = search needs
 
 returns-4 : tie.Need-returns-4
 returns-4 c = write-all (c .before .before .before .before .before .before .before .before .before .before .before .before .before .before .before .before .before .before .before .before .before .before .before .args .f) _ (c .before .before .before .before .before .before .before .before .before .before .before .before .before .before .before .before .before .before .measure .ensures) (c .before .before .before .before .before .before .before .before .before .before .before .before .before .before .before .before .before .before .before .before .before .before .before .args .offsets .now) (c .before .before .before .before .before .before .before .before .before .before .before .before .before .before .before .before .before .before .before .before .before .before .before .args .sizes .now) (c .before .before .before .before .before .before .before .before .before .before .before .before .before .before .before .before .before .before .before .before .before .before .before .args .order .now) (c .before .before .before .before .before .before .before .before .before .before .before .before .before .before .before .before .before .before .before .before .before .before .before .args .out .now) (c .before .before .before .before .before .before .before .before .before .before .before .before .before .before .before .if1 .left) _ _ (c .before .before .before .before .before .before .before .before .before .before .both .ensures) (c .before .before .before .before .before .before .before .before .before .before .before .before .put-listing .ensures) (c .before .before .before .before .before .before .before .before .before .both2 .ensures) (c .before .before .before .before .before .before .before .before .if2 .left) _ (c .before .before .before .before .before .before .before .check-order .ensures) _ (c .before .before .before .before .before .if3 .left) (c .before .before .before .put-listing2 .ensures) (c .whole-text .ensures)
@@ -63,21 +27,21 @@ pub write-listing-spec : {M : Type 1} → statement M
 write-listing-spec =
     tie.close
     (tie.spec
-    measure-requires
-    refused-text-requires
+    (λ c κs. search needs)
+    (λ c κs. search needs)
     returns
-    cast-n
-    slice-aggregate-put-listing
+    (λ c. search needs)
+    (λ c. search needs)
     put-listing-requires
-    both-requires
-    both-requires-2
-    refused-requires
-    refused-text-requires-2
+    (λ c κs. search needs)
+    (λ c κs. search needs)
+    (λ c κs. search needs)
+    (λ c κs. search needs)
     returns-2
-    check-order-requires
-    refused-text-requires-3
+    (λ c κs. search needs)
+    (λ c κs. search needs)
     returns-3
     put-listing-requires-2
-    whole-text-requires
-    same-length
+    (λ c κs. search needs)
+    (λ c. search needs)
     returns-4)

@@ -5,20 +5,8 @@ use borrow.Author.Needs.{needs}
 use Rattle.order.proofs.check_order.Statement.{statement}
 use Rattle.order.proofs.check_order.Tie as tie
 
-refused-requires : tie.Need-refused-requires
-refused-requires c κs = search needs
-
 returns : tie.Need-returns
 returns c = c .refused .ensures ∙ checked-many _ (c .before .before .before .args .order .now) (c .before .if1 .taken)
-
-is-order-requires : tie.Need-is-order-requires
-is-order-requires c κs = search needs
-
-accepted-requires : tie.Need-accepted-requires
-accepted-requires c κs = search needs
-
-refused-requires-2 : tie.Need-refused-requires-2
-refused-requires-2 c κs = search needs
 
 returns-2 : tie.Need-returns-2
 returns-2 c = c .accepted .ensures ∙ checked-good _ (c .before .before .before .before .before .args .order .now) (c .before .before .before .if1 .left) (sym (c .before .before .is-order .ensures) ∙ c .before .if2 .taken)
@@ -30,10 +18,10 @@ pub check-order-spec : {M : Type 1} → statement M
 check-order-spec =
     tie.close
     (tie.spec
-    refused-requires
+    (λ c κs. search needs)
     returns
-    is-order-requires
-    accepted-requires
-    refused-requires-2
+    (λ c κs. search needs)
+    (λ c κs. search needs)
+    (λ c κs. search needs)
     returns-2
     returns-3)

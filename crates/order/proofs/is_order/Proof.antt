@@ -8,18 +8,12 @@ use Rattle.order.proofs.is_order.Tie as tie
 returns : tie.Need-returns
 returns c = other-length _ (c .before .before .args .order .now) (c .if1 .taken)
 
-slice-aggregate-mark-all : tie.Need-slice-aggregate-mark-all
-slice-aggregate-mark-all c = search needs
-
 mark-all-requires : tie.Need-mark-all-requires
 mark-all-requires c κs = (c .before .before .if1 .left, unmarked 512 _ (c .before .if2 .taken))
 
 returns-2 : tie.Need-returns-2
 returns-2 c =
     c .before .mark-all .ensures ∙ same-length _ (c .before .before .before .before .before .before .args .order .now) (c .before .before .before .before .if1 .left)
-
-slice-aggregate-mark-all-2 : tie.Need-slice-aggregate-mark-all-2
-slice-aggregate-mark-all-2 c = search needs
 
 mark-all-requires-2 : tie.Need-mark-all-requires-2
 mark-all-requires-2 c κs = (c .before .before .if1 .left, unmarked 65536 _ (search needs))
@@ -33,9 +27,9 @@ is-order-spec =
     tie.close
     (tie.spec
     returns
-    slice-aggregate-mark-all
+    (λ c. search needs)
     mark-all-requires
     returns-2
-    slice-aggregate-mark-all-2
+    (λ c. search needs)
     mark-all-requires-2
     returns-3)

@@ -5,21 +5,12 @@ use borrow.Author.Needs.{needs}
 use Rattle.order.proofs.look.Statement.{statement}
 use Rattle.order.proofs.look.Tie as tie
 
-check-order-requires : tie.Need-check-order-requires
-check-order-requires c κs = search needs
-
 returns : tie.Need-returns
 returns c = look-bad (c .before .before .before .before .args .table .now) _ _ _ (c .before .before .check-order .ensures) (c .if1 .taken)
-
-refused-requires : tie.Need-refused-requires
-refused-requires c κs = search needs
 
 returns-2 : tie.Need-returns-2
 returns-2 c =
     look-past (c .before .before .before .before .before .before .args .table .now) _ _ _ _ (c .before .before .before .before .check-order .ensures) (c .before .before .if1 .left) (omega arith) (c .refused .ensures)
-
-mul-t8 : tie.Need-mul-t8
-mul-t8 c = search needs
 
 shared-slice-read-t10 : tie.Need-shared-slice-read-t10
 shared-slice-read-t10 c =
@@ -33,10 +24,10 @@ pub look-spec : {M : Type 1} → statement M
 look-spec =
     tie.close
     (tie.spec
-    check-order-requires
+    (λ c κs. search needs)
     returns
-    refused-requires
+    (λ c κs. search needs)
     returns-2
-    mul-t8
+    (λ c. search needs)
     shared-slice-read-t10
     returns-3)

@@ -4,11 +4,8 @@ use borrow.Author.Needs.{needs}
 use Rattle.order.proofs.section_of.Statement.{statement}
 use Rattle.order.proofs.section_of.Tie as tie
 
-look-requires : tie.Need-look-requires
-look-requires c κs = search needs
-
 returns : tie.Need-returns
 returns c = section-found (c .before .before .before .args .inverse .now) _ _ _ (c .before .look .ensures)
 
 pub section-of-spec : {M : Type 1} → statement M
-section-of-spec = tie.close (tie.spec look-requires returns)
+section-of-spec = tie.close (tie.spec (λ c κs. search needs) returns)

@@ -4,11 +4,8 @@ use borrow.Author.Needs.{needs}
 use Rattle.order.proofs.sent_of.Statement.{statement}
 use Rattle.order.proofs.sent_of.Tie as tie
 
-look-requires : tie.Need-look-requires
-look-requires c κs = search needs
-
 returns : tie.Need-returns
 returns c = sent-found (c .before .before .before .args .order .now) _ _ _ (c .before .look .ensures)
 
 pub sent-of-spec : {M : Type 1} → statement M
-sent-of-spec = tie.close (tie.spec look-requires returns)
+sent-of-spec = tie.close (tie.spec (λ c κs. search needs) returns)

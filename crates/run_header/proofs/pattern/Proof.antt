@@ -17,11 +17,5 @@ no-nan (fin s m e) h = tt
 float-to-bits-result : tie.Need-float-to-bits-result
 float-to-bits-result c = no-nan (c .before .args .x) (c .if1 .taken)
 
-returns : tie.Need-returns
-returns c = search needs
-
-returns-2 : tie.Need-returns-2
-returns-2 c = search needs
-
 pub pattern-spec : {M : Type 1} → statement M
-pattern-spec = tie.close (tie.spec float-to-bits-result returns returns-2)
+pattern-spec = tie.close (tie.spec float-to-bits-result (λ c. search needs) (λ c. search needs))

@@ -11,35 +11,11 @@ use Rattle.bits.proofs.Codecs.{first-taken, first-cut, run-yes, run-no}
 use Rattle.bits.proofs.fields.zero_pad_to_byte.Statement.{statement}
 use Rattle.bits.proofs.fields.zero_pad_to_byte.Tie as tie
 
-idle-requires : tie.Need-idle-requires
-idle-requires c κs = search needs
-
-kept-requires : tie.Need-kept-requires
-kept-requires c κs = search needs
-
 returns : tie.Need-returns
 returns c = c .kept .ensures ∙ sym (ap (λ (f : Field). f .next) (field-idle (c .before .before .before .before .args .s .now) true padding 0 _ _ (c .before .before .idle .ensures) (c .before .if1 .taken)))
 
-sub-n : tie.Need-sub-n
-sub-n c = search needs
-
-cast-n : tie.Need-cast-n
-cast-n c = search needs
-
-take-requires : tie.Need-take-requires
-take-requires c κs = search needs
-
-stop-requires : tie.Need-stop-requires
-stop-requires c κs = search needs
-
 returns-2 : tie.Need-returns-2
 returns-2 c = c .stop .ensures ∙ ap (λ (f : Field). f .next) (first-cut (c .before .before .before .before .before .before .before .args .s .now) true padding 0 _ _ (c .before .before .before .before .before .idle .ensures) _ _ refl (c .before .before .before .before .if1 .left) _ (c .before .before .before .take .ensures) (c .before .if2 .taken))
-
-begin-requires : tie.Need-begin-requires
-begin-requires c κs = search needs
-
-stop-requires-2 : tie.Need-stop-requires-2
-stop-requires-2 c κs = search needs
 
 returns-3 : tie.Need-returns-3
 returns-3 c =
@@ -63,15 +39,15 @@ pub zero-pad-to-byte-spec : {M : Type 1} → statement M
 zero-pad-to-byte-spec =
     tie.close
     (tie.spec
-    idle-requires
-    kept-requires
+    (λ c κs. search needs)
+    (λ c κs. search needs)
     returns
-    sub-n
-    cast-n
-    take-requires
-    stop-requires
+    (λ c. search needs)
+    (λ c. search needs)
+    (λ c κs. search needs)
+    (λ c κs. search needs)
     returns-2
-    begin-requires
-    stop-requires-2
+    (λ c κs. search needs)
+    (λ c κs. search needs)
     returns-3
     returns-4)

@@ -12,9 +12,6 @@ use Rattle.bits.proofs.pieces.is_there.Tie as tie
 returns : tie.Need-returns
 returns c = simp (lt-leb _ _ (c .if1 .taken))
 
-reaches-requires : tie.Need-reaches-requires
-reaches-requires c κs = search needs
-
 returns-2 : tie.Need-returns-2
 returns-2 c =
     let a = c .before .before .before .args in
@@ -24,4 +21,4 @@ returns-3 : tie.Need-returns-3
 returns-3 c = c .reaches .ensures ∙ simp (le-leb _ _ (c .before .before .if1 .left))
 
 pub is-there-spec : {M : Type 1} → statement M
-is-there-spec = tie.close (tie.spec returns reaches-requires returns-2 returns-3)
+is-there-spec = tie.close (tie.spec returns (λ c κs. search needs) returns-2 returns-3)

@@ -10,9 +10,6 @@ use Rattle.bits.proofs.Bits.{within-by}
 use Rattle.bits.proofs.pieces.reaches.Statement.{statement}
 use Rattle.bits.proofs.pieces.reaches.Tie as tie
 
-bit-count-requires : tie.Need-bit-count-requires
-bit-count-requires c κs = search needs
-
 returns : tie.Need-returns
 returns c =
     let a = c .before .before .before .args in
@@ -24,4 +21,4 @@ returns-2 c =
     within-by (a .n) (a .p) _ (c .if1 .left) ∙ ap (leb (a .p + a .n)) (c .before .bit-count .ensures)
 
 pub reaches-spec : {M : Type 1} → statement M
-reaches-spec = tie.close (tie.spec bit-count-requires returns returns-2)
+reaches-spec = tie.close (tie.spec (λ c κs. search needs) returns returns-2)

@@ -6,11 +6,8 @@ use Rattle.bits.specs.declared.Field.{Field}
 use Rattle.bits.proofs.pieces.refused_at.Statement.{statement}
 use Rattle.bits.proofs.pieces.refused_at.Tie as tie
 
-stop-requires : tie.Need-stop-requires
-stop-requires c κs = search needs
-
 returns : tie.Need-returns
 returns c = let no-value : Cursor → Field = λ k. record { value = 0; next = k } in ap no-value (c .stop .ensures)
 
 pub refused-at-spec : {M : Type 1} → statement M
-refused-at-spec = tie.close (tie.spec stop-requires returns)
+refused-at-spec = tie.close (tie.spec (λ c κs. search needs) returns)

@@ -9,14 +9,8 @@ use Rattle.bits.proofs.Steps.{piece-there, piece-cut}
 use Rattle.bits.proofs.pieces.take.Statement.{statement}
 use Rattle.bits.proofs.pieces.take.Tie as tie
 
-look-ahead-requires : tie.Need-look-ahead-requires
-look-ahead-requires c κs = search needs
-
 is-there-requires : tie.Need-is-there-requires
 is-there-requires c κs = ap (λ (a : Ahead). a .whole) (c .look-ahead .ensures)
-
-low-bits-requires : tie.Need-low-bits-requires
-low-bits-requires c κs = search needs
 
 add-t9 : tie.Need-add-t9
 add-t9 c =
@@ -36,4 +30,4 @@ returns-2 c = piece-cut (c .before .before .before .before .args .s .now) _ _ (s
 pub take-spec : {M : Type 1} → statement M
 take-spec =
     tie.close
-    (tie.spec look-ahead-requires is-there-requires low-bits-requires add-t9 returns returns-2)
+    (tie.spec (λ c κs. search needs) is-there-requires (λ c κs. search needs) add-t9 returns returns-2)

@@ -7,17 +7,8 @@ use Rattle.bits.proofs.Windows.{ahead-by, from-word, whole-here, not-wh
 use Rattle.bits.proofs.window.look_ahead.Statement.{statement}
 use Rattle.bits.proofs.window.look_ahead.Tie as tie
 
-word-places-requires : tie.Need-word-places-requires
-word-places-requires c κs = search needs
-
-word-requires : tie.Need-word-requires
-word-requires c κs = search needs
-
 part-requires : tie.Need-part-requires
 part-requires c κs = omega (arith, and-le-r (c .before .before .before .before .args .p) 7)
-
-word-at-end-requires : tie.Need-word-at-end-requires
-word-at-end-requires c κs = search needs
 
 part-requires-2 : tie.Need-part-requires-2
 part-requires-2 c κs = omega (arith, and-le-r (c .before .before .before .before .args .p) 7)
@@ -40,10 +31,10 @@ pub look-ahead-spec : {M : Type 1} → statement M
 look-ahead-spec =
     tie.close
     (tie.spec
-    word-places-requires
-    word-requires
+    (λ c κs. search needs)
+    (λ c κs. search needs)
     part-requires
-    word-at-end-requires
+    (λ c κs. search needs)
     part-requires-2
     returns
     returns-2)

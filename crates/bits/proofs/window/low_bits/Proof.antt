@@ -9,15 +9,6 @@ use Rattle.bits.proofs.Windows.{one-shifted, masked}
 use Rattle.bits.proofs.window.low_bits.Statement.{statement}
 use Rattle.bits.proofs.window.low_bits.Tie as tie
 
-at-most-32-requires : tie.Need-at-most-32-requires
-at-most-32-requires c κs = search needs
-
-cast-result : tie.Need-cast-result
-cast-result c = search needs
-
-shl-result : tie.Need-shl-result
-shl-result c = search needs
-
 sub-result : tie.Need-sub-result
 sub-result c = rw (one-shifted (c .at-most-32 .result) (omega arith)) (pow-pos (c .at-most-32 .result))
 
@@ -35,4 +26,4 @@ returns c =
 pub low-bits-spec : {M : Type 1} → statement M
 low-bits-spec =
     tie.close
-    (tie.spec at-most-32-requires cast-result shl-result sub-result cast-result-2 returns)
+    (tie.spec (λ c κs. search needs) (λ c. search needs) (λ c. search needs) sub-result cast-result-2 returns)

@@ -2,22 +2,10 @@
 use borrow.Author.Needs.{needs}
 use Rattle.grid.specs.Measured.{gridOf}
 use Rattle.grid.specs.Groups.{indexFor}
-use Rattle.words.specs.Records.{numberAnswer}
+use Rattle.c_words.specs.Records.{numberAnswer}
 use Rattle.export.proofs.Asking.{asked}
 use Rattle.export.proofs.geometry.hingevale_group_idx_from_coord.Statement.{statement}
 use Rattle.export.proofs.geometry.hingevale_group_idx_from_coord.Tie as tie
-
-frame-requires : tie.Need-frame-requires
-frame-requires c κs = search needs
-
-group-idx-from-coord-requires : tie.Need-group-idx-from-coord-requires
-group-idx-from-coord-requires c κs = search needs
-
-give-number-requires : tie.Need-give-number-requires
-give-number-requires c κs = search needs
-
-same-length : tie.Need-same-length
-same-length c = search needs
 
 returns : tie.Need-returns
 returns c = asked numberAnswer (λ f. indexFor (gridOf f) (c .before .before .before .before .before .before .before .args .x) (c .before .before .before .before .before .before .before .args .y)) (c .before .before .before .before .before .frame .ensures) (c .before .before .before .before .group-idx-from-coord .ensures) (c .before .before .give-number .ensures)
@@ -26,8 +14,8 @@ pub hingevale-group-idx-from-coord-spec : {M : Type 1} → statement M
 hingevale-group-idx-from-coord-spec =
     tie.close
     (tie.spec
-    frame-requires
-    group-idx-from-coord-requires
-    give-number-requires
-    same-length
+    (λ c κs. search needs)
+    (λ c κs. search needs)
+    (λ c κs. search needs)
+    (λ c. search needs)
     returns)

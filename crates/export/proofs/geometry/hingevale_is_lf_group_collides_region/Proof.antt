@@ -2,25 +2,10 @@
 use borrow.Author.Needs.{needs}
 use Rattle.grid.specs.Measured.{gridOf}
 use Rattle.grid.specs.Groups.{touchFor}
-use Rattle.words.specs.Records.{touchAnswer}
+use Rattle.c_words.specs.Records.{touchAnswer}
 use Rattle.export.proofs.Asking.{asked-of}
 use Rattle.export.proofs.geometry.hingevale_is_lf_group_collides_region.Statement.{statement}
 use Rattle.export.proofs.geometry.hingevale_is_lf_group_collides_region.Tie as tie
-
-frame-requires : tie.Need-frame-requires
-frame-requires c κs = search needs
-
-region-requires : tie.Need-region-requires
-region-requires c κs = search needs
-
-is-lf-group-collides-region-requires : tie.Need-is-lf-group-collides-region-requires
-is-lf-group-collides-region-requires c κs = search needs
-
-give-touch-requires : tie.Need-give-touch-requires
-give-touch-requires c κs = search needs
-
-same-length : tie.Need-same-length
-same-length c = search needs
 
 returns : tie.Need-returns
 returns c = asked-of touchAnswer (λ f a. touchFor (gridOf f) (gridOf f .«lf_side») (c .before .before .before .before .before .before .before .before .args .lf-group-idx) a) (c .before .before .before .before .before .before .frame .ensures) (c .before .before .before .before .before .region .ensures) (c .before .before .before .before .is-lf-group-collides-region .ensures) (c .before .before .give-touch .ensures)
@@ -29,9 +14,9 @@ pub hingevale-is-lf-group-collides-region-spec : {M : Type 1} → statement M
 hingevale-is-lf-group-collides-region-spec =
     tie.close
     (tie.spec
-    frame-requires
-    region-requires
-    is-lf-group-collides-region-requires
-    give-touch-requires
-    same-length
+    (λ c κs. search needs)
+    (λ c κs. search needs)
+    (λ c κs. search needs)
+    (λ c κs. search needs)
+    (λ c. search needs)
     returns)

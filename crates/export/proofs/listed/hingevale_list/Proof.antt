@@ -2,32 +2,14 @@
 use borrow.Author.Needs.{needs}
 use borrow.Author.Tests.{lt-ltb, le-ltb}
 use lib.ListN.{length}
-use Rattle.lister.specs.Job.{jobText}
+use Rattle.listing_job.specs.Job.{jobText}
 use Rattle.export.proofs.Tellings.{told-short, told-given}
 use Rattle.export.proofs.listed.hingevale_list.Statement.{statement}
 use Rattle.export.proofs.listed.hingevale_list.Tie as tie
 
-refused-requires : tie.Need-refused-requires
-refused-requires c κs = search needs
-
-status-requires : tie.Need-status-requires
-status-requires c κs = search needs
-
 returns : tie.Need-returns
 returns c =
     told-short (jobText (c .before .before .before .before .before .before .args .input .now)) (c .before .before .before .before .before .before .args .text .now) (c .before .before .before .before .before .before .args .out .now) _ _ _ (lt-ltb (length (c .before .before .before .before .before .before .args .out .now)) 1 (c .before .before .if1 .taken)) (c .before .refused .ensures) (c .status .ensures)
-
-list-frame-requires : tie.Need-list-frame-requires
-list-frame-requires c κs = search needs
-
-give-length-requires : tie.Need-give-length-requires
-give-length-requires c κs = search needs
-
-same-length : tie.Need-same-length
-same-length c = search needs
-
-same-length-2 : tie.Need-same-length-2
-same-length-2 c = search needs
 
 returns-2 : tie.Need-returns-2
 returns-2 c =
@@ -37,11 +19,11 @@ pub hingevale-list-spec : {M : Type 1} → statement M
 hingevale-list-spec =
     tie.close
     (tie.spec
-    refused-requires
-    status-requires
+    (λ c κs. search needs)
+    (λ c κs. search needs)
     returns
-    list-frame-requires
-    give-length-requires
-    same-length
-    same-length-2
+    (λ c κs. search needs)
+    (λ c κs. search needs)
+    (λ c. search needs)
+    (λ c. search needs)
     returns-2)

@@ -4,21 +4,6 @@ use Rattle.export.proofs.Shown.{referable-is}
 use Rattle.export.proofs.questions.hingevale_can_reference.Statement.{statement}
 use Rattle.export.proofs.questions.hingevale_can_reference.Tie as tie
 
-frame-type-of-requires : tie.Need-frame-type-of-requires
-frame-type-of-requires c κs = search needs
-
-is-lf-frame-requires : tie.Need-is-lf-frame-requires
-is-lf-frame-requires c κs = search needs
-
-either-requires : tie.Need-either-requires
-either-requires c κs = search needs
-
-both-requires : tie.Need-both-requires
-both-requires c κs = search needs
-
-both-requires-2 : tie.Need-both-requires-2
-both-requires-2 c κs = search needs
-
 returns : tie.Need-returns
 returns c = referable-is (c .before .before .before .before .before .args .frame-type) (c .before .before .before .before .before .args .duration) (c .before .before .before .before .before .args .save-as-reference) (c .before .before .before .before .before .args .is-last) _ _ _ _ _ (c .before .before .before .before .frame-type-of .ensures) (c .before .before .before .is-lf-frame .ensures) (c .before .before .either .ensures) (c .before .both .ensures) (c .both2 .ensures)
 
@@ -26,9 +11,9 @@ pub hingevale-can-reference-spec : {M : Type 1} → statement M
 hingevale-can-reference-spec =
     tie.close
     (tie.spec
-    frame-type-of-requires
-    is-lf-frame-requires
-    either-requires
-    both-requires
-    both-requires-2
+    (λ c κs. search needs)
+    (λ c κs. search needs)
+    (λ c κs. search needs)
+    (λ c κs. search needs)
+    (λ c κs. search needs)
     returns)

@@ -4,18 +4,6 @@ use Rattle.export.proofs.Shown.{keyframe-is}
 use Rattle.export.proofs.questions.hingevale_is_keyframe.Statement.{statement}
 use Rattle.export.proofs.questions.hingevale_is_keyframe.Tie as tie
 
-frame-type-of-requires : tie.Need-frame-type-of-requires
-frame-type-of-requires c κs = search needs
-
-is-normal-frame-requires : tie.Need-is-normal-frame-requires
-is-normal-frame-requires c κs = search needs
-
-either-requires : tie.Need-either-requires
-either-requires c κs = search needs
-
-both-requires : tie.Need-both-requires
-both-requires c κs = search needs
-
 returns : tie.Need-returns
 returns c = keyframe-is (c .before .before .before .before .args .frame-type) (c .before .before .before .before .args .duration) (c .before .before .before .before .args .is-last) _ _ _ _ (c .before .before .before .frame-type-of .ensures) (c .before .before .is-normal-frame .ensures) (c .before .either .ensures) (c .both .ensures)
 
@@ -23,8 +11,8 @@ pub hingevale-is-keyframe-spec : {M : Type 1} → statement M
 hingevale-is-keyframe-spec =
     tie.close
     (tie.spec
-    frame-type-of-requires
-    is-normal-frame-requires
-    either-requires
-    both-requires
+    (λ c κs. search needs)
+    (λ c κs. search needs)
+    (λ c κs. search needs)
+    (λ c κs. search needs)
     returns)

@@ -5,9 +5,6 @@ use Rattle.filter.proofs.EpfLaws.{of-none, of-some}
 use Rattle.filter.proofs.epf.epf_of.Statement.{statement}
 use Rattle.filter.proofs.epf.epf_of.Tie as tie
 
-epf-disabled-requires : tie.Need-epf-disabled-requires
-epf-disabled-requires c κs = search needs
-
 returns : tie.Need-returns
 returns c = c .before .before .epf-disabled .ensures ∙ of-none (c .before .before .before .args .params) (c .if1 .taken)
 
@@ -15,4 +12,4 @@ returns-2 : tie.Need-returns-2
 returns-2 c = of-some (c .before .before .before .args .params) (c .if1 .left)
 
 pub epf-of-spec : {M : Type 1} → statement M
-epf-of-spec = tie.close (tie.spec epf-disabled-requires returns returns-2)
+epf-of-spec = tie.close (tie.spec (λ c κs. search needs) returns returns-2)

@@ -4,14 +4,8 @@ use Rattle.filter.proofs.EpfLaws.{float-read}
 use Rattle.filter.proofs.floats.read_float_if.Statement.{statement}
 use Rattle.filter.proofs.floats.read_float_if.Tie as tie
 
-read-f16-if-requires : tie.Need-read-f16-if-requires
-read-f16-if-requires c κs = search needs
-
-f16-to-f32-requires : tie.Need-f16-to-f32-requires
-f16-to-f32-requires c κs = search needs
-
 returns : tie.Need-returns
 returns c = float-read (c .before .before .before .before .args .s .now) _ _ _ _ _ (c .before .before .read-f16-if .ensures) (c .before .f16-to-f32 .ensures)
 
 pub read-float-if-spec : {M : Type 1} → statement M
-read-float-if-spec = tie.close (tie.spec read-f16-if-requires f16-to-f32-requires returns)
+read-float-if-spec = tie.close (tie.spec (λ c κs. search needs) (λ c κs. search needs) returns)

@@ -5,12 +5,6 @@ use Rattle.filter.proofs.GaborLaws.{of-disabled, of-default, of-custom}
 use Rattle.filter.proofs.gabor.gabor_of.Statement.{statement}
 use Rattle.filter.proofs.gabor.gabor_of.Tie as tie
 
-gabor-disabled-requires : tie.Need-gabor-disabled-requires
-gabor-disabled-requires c κs = search needs
-
-gabor-default-requires : tie.Need-gabor-default-requires
-gabor-default-requires c κs = search needs
-
 returns : tie.Need-returns
 returns c = c .before .before .gabor-disabled .ensures ∙ of-disabled _ _ _ _ _ (c .if1 .taken)
 
@@ -22,4 +16,4 @@ returns-3 c = of-custom (c .before .before .before .before .args .enabled) (c .b
 
 pub gabor-of-spec : {M : Type 1} → statement M
 gabor-of-spec =
-    tie.close (tie.spec gabor-disabled-requires gabor-default-requires returns returns-2 returns-3)
+    tie.close (tie.spec (λ c κs. search needs) (λ c κs. search needs) returns returns-2 returns-3)

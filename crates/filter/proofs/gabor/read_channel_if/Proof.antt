@@ -4,24 +4,6 @@ use Rattle.filter.proofs.GaborLaws.{channel-is}
 use Rattle.filter.proofs.gabor.read_channel_if.Statement.{statement}
 use Rattle.filter.proofs.gabor.read_channel_if.Tie as tie
 
-read-f16-if-requires : tie.Need-read-f16-if-requires
-read-f16-if-requires c κs = search needs
-
-read-f16-if-requires-2 : tie.Need-read-f16-if-requires-2
-read-f16-if-requires-2 c κs = search needs
-
-is-unbalanced-requires : tie.Need-is-unbalanced-requires
-is-unbalanced-requires c κs = search needs
-
-refuse-if-requires : tie.Need-refuse-if-requires
-refuse-if-requires c κs = search needs
-
-f16-to-f32-requires : tie.Need-f16-to-f32-requires
-f16-to-f32-requires c κs = search needs
-
-f16-to-f32-requires-2 : tie.Need-f16-to-f32-requires-2
-f16-to-f32-requires-2 c κs = search needs
-
 returns : tie.Need-returns
 returns c = channel-is (c .before .before .before .before .before .before .before .args .s .now) _ _ _ _ _ _ _ _ (c .before .before .before .before .before .read-f16-if .ensures) (c .before .before .before .before .read-f16-if2 .ensures) (c .before .before .before .is-unbalanced .ensures) (c .before .before .refuse-if .ensures) (c .before .f16-to-f32 .ensures) (c .f16-to-f322 .ensures)
 
@@ -29,10 +11,10 @@ pub read-channel-if-spec : {M : Type 1} → statement M
 read-channel-if-spec =
     tie.close
     (tie.spec
-    read-f16-if-requires
-    read-f16-if-requires-2
-    is-unbalanced-requires
-    refuse-if-requires
-    f16-to-f32-requires
-    f16-to-f32-requires-2
+    (λ c κs. search needs)
+    (λ c κs. search needs)
+    (λ c κs. search needs)
+    (λ c κs. search needs)
+    (λ c κs. search needs)
+    (λ c κs. search needs)
     returns)

@@ -4,24 +4,6 @@ use Rattle.filter.proofs.EpfLaws.{scale-is}
 use Rattle.filter.proofs.settings.read_scale_if.Statement.{statement}
 use Rattle.filter.proofs.settings.read_scale_if.Tie as tie
 
-read-bool-if-requires : tie.Need-read-bool-if-requires
-read-bool-if-requires c κs = search needs
-
-read-float-if-requires : tie.Need-read-float-if-requires
-read-float-if-requires c κs = search needs
-
-read-float-if-requires-2 : tie.Need-read-float-if-requires-2
-read-float-if-requires-2 c κs = search needs
-
-read-float-if-requires-3 : tie.Need-read-float-if-requires-3
-read-float-if-requires-3 c κs = search needs
-
-read-bits-if-requires : tie.Need-read-bits-if-requires
-read-bits-if-requires c κs = search needs
-
-scale-of-requires : tie.Need-scale-of-requires
-scale-of-requires c κs = search needs
-
 returns : tie.Need-returns
 returns c =
     scale-is (c .before .before .before .before .before .before .before .before .before .args .s .now) _ _ _ (c .before .before .before .before .before .before .before .read-bool-if .ensures) _ _ _ _ _
@@ -32,10 +14,10 @@ pub read-scale-if-spec : {M : Type 1} → statement M
 read-scale-if-spec =
     tie.close
     (tie.spec
-    read-bool-if-requires
-    read-float-if-requires
-    read-float-if-requires-2
-    read-float-if-requires-3
-    read-bits-if-requires
-    scale-of-requires
+    (λ c κs. search needs)
+    (λ c κs. search needs)
+    (λ c κs. search needs)
+    (λ c κs. search needs)
+    (λ c κs. search needs)
+    (λ c κs. search needs)
     returns)

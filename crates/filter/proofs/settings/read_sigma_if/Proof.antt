@@ -4,27 +4,6 @@ use Rattle.filter.proofs.EpfLaws.{sigma-is}
 use Rattle.filter.proofs.settings.read_sigma_if.Statement.{statement}
 use Rattle.filter.proofs.settings.read_sigma_if.Tie as tie
 
-read-bool-if-requires : tie.Need-read-bool-if-requires
-read-bool-if-requires c κs = search needs
-
-both-requires : tie.Need-both-requires
-both-requires c κs = search needs
-
-read-float-if-requires : tie.Need-read-float-if-requires
-read-float-if-requires c κs = search needs
-
-read-float-if-requires-2 : tie.Need-read-float-if-requires-2
-read-float-if-requires-2 c κs = search needs
-
-read-float-if-requires-3 : tie.Need-read-float-if-requires-3
-read-float-if-requires-3 c κs = search needs
-
-read-float-if-requires-4 : tie.Need-read-float-if-requires-4
-read-float-if-requires-4 c κs = search needs
-
-sigma-of-requires : tie.Need-sigma-of-requires
-sigma-of-requires c κs = search needs
-
 returns : tie.Need-returns
 returns c =
     sigma-is (c .before .before .before .before .before .before .before .before .before .before .args .s .now) _ _ _ (c .before .before .before .before .before .before .before .before .read-bool-if .ensures) _ _ _ _ _ _ _ (c .before .before .before .before .before .before .both .ensures)
@@ -35,11 +14,11 @@ pub read-sigma-if-spec : {M : Type 1} → statement M
 read-sigma-if-spec =
     tie.close
     (tie.spec
-    read-bool-if-requires
-    both-requires
-    read-float-if-requires
-    read-float-if-requires-2
-    read-float-if-requires-3
-    read-float-if-requires-4
-    sigma-of-requires
+    (λ c κs. search needs)
+    (λ c κs. search needs)
+    (λ c κs. search needs)
+    (λ c κs. search needs)
+    (λ c κs. search needs)
+    (λ c κs. search needs)
+    (λ c κs. search needs)
     returns)

@@ -5,9 +5,6 @@ use Rattle.filter.proofs.EpfLaws.{sigma-default, sigma-custom}
 use Rattle.filter.proofs.settings.sigma_of.Statement.{statement}
 use Rattle.filter.proofs.settings.sigma_of.Tie as tie
 
-sigma-default-requires : tie.Need-sigma-default-requires
-sigma-default-requires c κs = search needs
-
 returns : tie.Need-returns
 returns c =
     let a = c .before .before .args in
@@ -24,4 +21,4 @@ returns-3 c =
     sigma-custom (a .own) (a .modular) (a .q) (a .a) (a .b) (a .d) (a .q) (c .before .if1 .left) (rw (c .if2 .left))
 
 pub sigma-of-spec : {M : Type 1} → statement M
-sigma-of-spec = tie.close (tie.spec sigma-default-requires returns returns-2 returns-3)
+sigma-of-spec = tie.close (tie.spec (λ c κs. search needs) returns returns-2 returns-3)

@@ -5,18 +5,6 @@ use Rattle.filter.proofs.WeightLaws.{above-lt, below-lt, unbalanced-is}
 use Rattle.filter.proofs.weights.is_unbalanced.Statement.{statement}
 use Rattle.filter.proofs.weights.is_unbalanced.Tie as tie
 
-part-above-requires : tie.Need-part-above-requires
-part-above-requires c κs = search needs
-
-part-above-requires-2 : tie.Need-part-above-requires-2
-part-above-requires-2 c κs = search needs
-
-part-below-requires : tie.Need-part-below-requires
-part-below-requires c κs = search needs
-
-part-below-requires-2 : tie.Need-part-below-requires-2
-part-below-requires-2 c κs = search needs
-
 add-result : tie.Need-add-result
 add-result c = omega (arith, above-lt (c .before .before .before .before .args .w0), above-lt (c .before .before .before .before .args .w1), c .before .before .before .part-above .ensures, c .before .before .part-above2 .ensures)
 
@@ -33,10 +21,10 @@ pub is-unbalanced-spec : {M : Type 1} → statement M
 is-unbalanced-spec =
     tie.close
     (tie.spec
-    part-above-requires
-    part-above-requires-2
-    part-below-requires
-    part-below-requires-2
+    (λ c κs. search needs)
+    (λ c κs. search needs)
+    (λ c κs. search needs)
+    (λ c κs. search needs)
     add-result
     add-result-2
     add-result-3

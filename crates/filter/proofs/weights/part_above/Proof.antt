@@ -4,9 +4,6 @@ use Rattle.filter.proofs.WeightLaws.{is-negative, is-positive}
 use Rattle.filter.proofs.weights.part_above.Statement.{statement}
 use Rattle.filter.proofs.weights.part_above.Tie as tie
 
-size-requires : tie.Need-size-requires
-size-requires c κs = search needs
-
 returns : tie.Need-returns
 returns c = rw (is-negative (c .before .args .h) (c .if1 .taken))
 
@@ -14,4 +11,4 @@ returns-2 : tie.Need-returns-2
 returns-2 c = rw (is-positive (c .before .before .args .h) (c .before .if1 .left)) (c .size .ensures)
 
 pub part-above-spec : {M : Type 1} → statement M
-part-above-spec = tie.close (tie.spec size-requires returns returns-2)
+part-above-spec = tie.close (tie.spec (λ c κs. search needs) returns returns-2)

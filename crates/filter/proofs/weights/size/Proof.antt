@@ -16,9 +16,6 @@ add-result c = omega (arith, and-le-r (c .before .args .h) 1023)
 cast-result-2 : tie.Need-cast-result-2
 cast-result-2 c = omega (arith, and-le-r (c .before .args .h) 1023)
 
-sub-result : tie.Need-sub-result
-sub-result c = search needs
-
 cast-result-3 : tie.Need-cast-result-3
 cast-result-3 c = omega (arith, and-le-r ((c .before .args .h) / 1024) 31)
 
@@ -38,7 +35,7 @@ size-spec =
     cast-result
     add-result
     cast-result-2
-    sub-result
+    (λ c. search needs)
     cast-result-3
     shl-result
     returns

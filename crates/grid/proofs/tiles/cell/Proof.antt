@@ -6,9 +6,6 @@ use Rattle.grid.proofs.Answers.{cell-made}
 use Rattle.grid.proofs.tiles.cell.Statement.{statement}
 use Rattle.grid.proofs.tiles.cell.Tie as tie
 
-div-ceil-requires : tie.Need-div-ceil-requires
-div-ceil-requires c κs = search needs
-
 rem-t5 : tie.Need-rem-t5
 rem-t5 c = has-columns (c .before .args .g) _ _ _ (c .before .pre) (c .div-ceil .ensures)
 
@@ -25,4 +22,4 @@ returns : tie.Need-returns
 returns c = cell-made _ _ _ _ (c .div-ceil .ensures)
 
 pub cell-spec : {M : Type 1} → statement M
-cell-spec = tie.close (tie.spec div-ceil-requires rem-t5 mul-t6 div-t7 mul-t8 returns)
+cell-spec = tie.close (tie.spec (λ c κs. search needs) rem-t5 mul-t6 div-t7 mul-t8 returns)

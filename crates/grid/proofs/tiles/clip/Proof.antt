@@ -4,14 +4,8 @@ use Rattle.grid.proofs.Answers.{clip-made}
 use Rattle.grid.proofs.tiles.clip.Statement.{statement}
 use Rattle.grid.proofs.tiles.clip.Tie as tie
 
-within-requires : tie.Need-within-requires
-within-requires c κs = search needs
-
-within-requires-2 : tie.Need-within-requires-2
-within-requires-2 c κs = search needs
-
 returns : tie.Need-returns
 returns c = clip-made _ _ _ _ (c .before .before .args .r) (c .before .within .ensures) (c .within2 .ensures)
 
 pub clip-spec : {M : Type 1} → statement M
-clip-spec = tie.close (tie.spec within-requires within-requires-2 returns)
+clip-spec = tie.close (tie.spec (λ c κs. search needs) (λ c κs. search needs) returns)

@@ -7,8 +7,5 @@ use Rattle.grid.proofs.tiles.count.Tie as tie
 mul-product : tie.Need-mul-product
 mul-product c = record { fits = below 32 (search needs) (search needs) }
 
-returns : tie.Need-returns
-returns c = search needs
-
 pub count-spec : {M : Type 1} → statement M
-count-spec = tie.close (tie.spec mul-product returns)
+count-spec = tie.close (tie.spec mul-product (λ c. search needs))

@@ -14,12 +14,6 @@ returns c = rw (c .if1 .taken) (sym (up-none _))
 returns-2 : tie.Need-returns-2
 returns-2 c = rw (c .if2 .taken) (sym (up-zero _ (omega arith)))
 
-sub-result : tie.Need-sub-result
-sub-result c = search needs
-
-div-result : tie.Need-div-result
-div-result c = search needs
-
 add-result : tie.Need-add-result
 add-result c = omega (arith, div-le-self (c .before .before .args .a - 1) (c .before .before .args .b))
 
@@ -27,4 +21,4 @@ returns-3 : tie.Need-returns-3
 returns-3 c = up-by _ _ (omega arith) (omega arith)
 
 pub div-ceil-spec : {M : Type 1} → statement M
-div-ceil-spec = tie.close (tie.spec returns returns-2 sub-result div-result add-result returns-3)
+div-ceil-spec = tie.close (tie.spec returns returns-2 (λ c. search needs) (λ c. search needs) add-result returns-3)

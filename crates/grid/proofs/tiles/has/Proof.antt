@@ -4,17 +4,8 @@ use Rattle.grid.proofs.Answers.{has-by}
 use Rattle.grid.proofs.tiles.has.Statement.{statement}
 use Rattle.grid.proofs.tiles.has.Tie as tie
 
-div-ceil-requires : tie.Need-div-ceil-requires
-div-ceil-requires c κs = search needs
-
-div-ceil-requires-2 : tie.Need-div-ceil-requires-2
-div-ceil-requires-2 c κs = search needs
-
-count-requires : tie.Need-count-requires
-count-requires c κs = search needs
-
 returns : tie.Need-returns
 returns c = has-by (c .before .before .before .args .g) _ _ _ _ _ (c .before .before .div-ceil .ensures) (c .before .div-ceil2 .ensures) (c .count .ensures)
 
 pub has-spec : {M : Type 1} → statement M
-has-spec = tie.close (tie.spec div-ceil-requires div-ceil-requires-2 count-requires returns)
+has-spec = tie.close (tie.spec (λ c κs. search needs) (λ c κs. search needs) (λ c κs. search needs) returns)

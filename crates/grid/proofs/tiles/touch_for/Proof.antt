@@ -4,17 +4,8 @@ use Rattle.grid.proofs.Answers.{there, touch-yes, touch-no}
 use Rattle.grid.proofs.tiles.touch_for.Statement.{statement}
 use Rattle.grid.proofs.tiles.touch_for.Tie as tie
 
-has-requires : tie.Need-has-requires
-has-requires c κs = search needs
-
-judge-requires : tie.Need-judge-requires
-judge-requires c κs = search needs
-
 cell-requires : tie.Need-cell-requires
 cell-requires c κs = there (c .before .before .before .before .args .g) _ _ _ _ (c .before .before .before .has .ensures) (c .before .before .judge .ensures) (c .if1 .taken)
-
-is-aabb-collides-requires : tie.Need-is-aabb-collides-requires
-is-aabb-collides-requires c κs = search needs
 
 returns : tie.Need-returns
 returns c = touch-yes (c .before .before .before .before .before .before .args .g) _ _ _ _ (c .before .before .before .before .before .has .ensures) (c .before .before .before .before .judge .ensures) (c .before .before .before .before .before .before .args .region) _ _ (c .before .before .if1 .taken) (c .before .cell .ensures) (c .is-aabb-collides .ensures)
@@ -26,9 +17,9 @@ pub touch-for-spec : {M : Type 1} → statement M
 touch-for-spec =
     tie.close
     (tie.spec
-    has-requires
-    judge-requires
+    (λ c κs. search needs)
+    (λ c κs. search needs)
     cell-requires
-    is-aabb-collides-requires
+    (λ c κs. search needs)
     returns
     returns-2)

@@ -7,9 +7,6 @@ use borrow.Author.Needs.{needs}
 use Rattle.header.proofs.arrays.byte_of.Statement.{statement}
 use Rattle.header.proofs.arrays.byte_of.Tie as tie
 
-shr-result : tie.Need-shr-result
-shr-result c = search needs
-
 cast-result : tie.Need-cast-result
 cast-result c = record { fits = rw (and-mask (c .args .x / 2 ^ c .args .shift) 8) (mod-lt (c .args .x / 2 ^ c .args .shift) (pow-pos 8)) }
 
@@ -17,4 +14,4 @@ returns : tie.Need-returns
 returns c = and-mask (c .args .x / 2 ^ c .args .shift) 8
 
 pub byte-of-spec : {M : Type 1} → statement M
-byte-of-spec = tie.close (tie.spec shr-result cast-result returns)
+byte-of-spec = tie.close (tie.spec (λ c. search needs) cast-result returns)

@@ -4,12 +4,6 @@ use Rattle.header.proofs.Canvas.{covers-before, covers-at, covers-behin
 use Rattle.header.proofs.blending.covers.Statement.{statement}
 use Rattle.header.proofs.blending.covers.Tie as tie
 
-add-result : tie.Need-add-result
-add-result c = search needs
-
-add-result-2 : tie.Need-add-result-2
-add-result-2 c = search needs
-
 returns : tie.Need-returns
 returns c = covers-before (c .before .args .n) (c .before .args .size) (c .before .args .image) (c .if1 .taken)
 
@@ -20,4 +14,4 @@ returns-3 : tie.Need-returns-3
 returns-3 c = covers-behind (c .before .before .args .n) (c .before .before .args .size) (c .before .before .args .image) (c .before .if1 .left) (c .if2 .left)
 
 pub covers-spec : {M : Type 1} → statement M
-covers-spec = tie.close (tie.spec add-result add-result-2 returns returns-2 returns-3)
+covers-spec = tie.close (tie.spec (λ c. search needs) (λ c. search needs) returns returns-2 returns-3)

@@ -5,21 +5,9 @@ use Rattle.header.proofs.Canvas.{covers-both}
 use Rattle.header.proofs.blending.covers_image.Statement.{statement}
 use Rattle.header.proofs.blending.covers_image.Tie as tie
 
-covers-requires : tie.Need-covers-requires
-covers-requires c κs = search needs
-
-covers-requires-2 : tie.Need-covers-requires-2
-covers-requires-2 c κs = search needs
-
-both-requires : tie.Need-both-requires
-both-requires c κs = search needs
-
-either-requires : tie.Need-either-requires
-either-requires c κs = search needs
-
 returns : tie.Need-returns
 returns c = covers-both (c .before .before .before .before .before .args .f) (c .before .before .before .before .before .args .c) _ _ _ _ (c .before .before .before .before .covers .ensures) (c .before .before .before .covers2 .ensures) (c .before .both .ensures) (c .either .ensures)
 
 pub covers-image-spec : {M : Type 1} → statement M
 covers-image-spec =
-    tie.close (tie.spec covers-requires covers-requires-2 both-requires either-requires returns)
+    tie.close (tie.spec (λ c κs. search needs) (λ c κs. search needs) (λ c κs. search needs) (λ c κs. search needs) returns)

@@ -6,12 +6,6 @@ use Rattle.header.proofs.Canvas.{source-own, source-given}
 use Rattle.header.proofs.blending.has_source.Statement.{statement}
 use Rattle.header.proofs.blending.has_source.Tie as tie
 
-both-requires : tie.Need-both-requires
-both-requires c κs = search needs
-
-both-requires-2 : tie.Need-both-requires-2
-both-requires-2 c κs = search needs
-
 returns : tie.Need-returns
 returns c = source-own (c .before .before .args .d) (c .before .before .args .own) (c .before .before .args .full) _ (c .before .if1 .taken) (c .both .ensures)
 
@@ -19,4 +13,4 @@ returns-2 : tie.Need-returns-2
 returns-2 c = source-given (c .before .before .before .args .d) (c .before .before .before .args .own) (c .before .before .before .args .full) _ (c .before .before .if1 .left) (c .both2 .ensures)
 
 pub has-source-spec : {M : Type 1} → statement M
-has-source-spec = tie.close (tie.spec both-requires both-requires-2 returns returns-2)
+has-source-spec = tie.close (tie.spec (λ c κs. search needs) (λ c κs. search needs) returns returns-2)

@@ -6,39 +6,6 @@ use Rattle.header.proofs.Bundles.{blending-law}
 use Rattle.header.proofs.blending.read_blending_fields.Statement.{statement}
 use Rattle.header.proofs.blending.read_blending_fields.Tie as tie
 
-mode-choices-requires : tie.Need-mode-choices-requires
-mode-choices-requires c κs = search needs
-
-read-enum-if-requires : tie.Need-read-enum-if-requires
-read-enum-if-requires c κs = search needs
-
-either-requires : tie.Need-either-requires
-either-requires c κs = search needs
-
-both-requires : tie.Need-both-requires
-both-requires c κs = search needs
-
-alpha-choices-requires : tie.Need-alpha-choices-requires
-alpha-choices-requires c κs = search needs
-
-read-u32-if-requires : tie.Need-read-u32-if-requires
-read-u32-if-requires c κs = search needs
-
-either-requires-2 : tie.Need-either-requires-2
-either-requires-2 c κs = search needs
-
-read-bool-if-requires : tie.Need-read-bool-if-requires
-read-bool-if-requires c κs = search needs
-
-has-source-requires : tie.Need-has-source-requires
-has-source-requires c κs = search needs
-
-both-requires-2 : tie.Need-both-requires-2
-both-requires-2 c κs = search needs
-
-read-bits-if-requires : tie.Need-read-bits-if-requires
-read-bits-if-requires c κs = search needs
-
 returns : tie.Need-returns
 returns c =
     ap blendingRead
@@ -53,15 +20,15 @@ pub read-blending-fields-spec : {M : Type 1} → statement M
 read-blending-fields-spec =
     tie.close
     (tie.spec
-    mode-choices-requires
-    read-enum-if-requires
-    either-requires
-    both-requires
-    alpha-choices-requires
-    read-u32-if-requires
-    either-requires-2
-    read-bool-if-requires
-    has-source-requires
-    both-requires-2
-    read-bits-if-requires
+    (λ c κs. search needs)
+    (λ c κs. search needs)
+    (λ c κs. search needs)
+    (λ c κs. search needs)
+    (λ c κs. search needs)
+    (λ c κs. search needs)
+    (λ c κs. search needs)
+    (λ c κs. search needs)
+    (λ c κs. search needs)
+    (λ c κs. search needs)
+    (λ c κs. search needs)
     returns)

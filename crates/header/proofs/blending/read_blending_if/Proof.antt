@@ -8,38 +8,17 @@ use borrow.Author.Needs.{needs}
 use Rattle.header.proofs.blending.read_blending_if.Statement.{statement}
 use Rattle.header.proofs.blending.read_blending_if.Tie as tie
 
-idle-requires : tie.Need-idle-requires
-idle-requires c κs = search needs
-
-look-ahead-requires : tie.Need-look-ahead-requires
-look-ahead-requires c κs = search needs
-
 see-choice-requires : tie.Need-see-choice-requires
 see-choice-requires c κs = (omega arith, held-place (c .before .before .before .before .before .args .s .now) _ 12 (held-first (c .before .before .before .before .before .args .s .now) (c .before .before .before .before .before .args .c .at) (c .before .look-ahead .result) (c .before .look-ahead .ensures) (c .if2 .taken)))
-
-either-requires : tie.Need-either-requires
-either-requires c κs = search needs
-
-both-requires : tie.Need-both-requires
-both-requires c κs = search needs
 
 see-choice-requires-2 : tie.Need-see-choice-requires-2
 see-choice-requires-2 c κs = (omega arith, held-place (c .before .before .before .before .before .before .before .before .before .before .before .before .args .s .now) _ 8 (held-mode (c .before .before .before .before .before .before .before .before .before .before .before .before .args .s .now) (c .before .before .before .before .before .before .before .before .before .before .before .before .args .c .at) (c .before .before .before .before .before .before .before .before .look-ahead .result) (c .before .before .before .before .before .before .before .before .look-ahead .ensures) (c .before .before .before .before .before .before .before .if2 .taken) (c .before .before .before .before .before .before .see-choice .result) (c .before .before .before .before .before .before .see-choice .ensures)))
 
-either-requires-2 : tie.Need-either-requires-2
-either-requires-2 c κs = search needs
-
 see-requires : tie.Need-see-requires
 see-requires c κs = (omega arith, omega (arith, held-place (c .before .before .before .before .before .before .before .before .before .before .before .before .before .before .before .args .s .now) _ 3 (held-alpha (c .before .before .before .before .before .before .before .before .before .before .before .before .before .before .before .args .s .now) (c .before .before .before .before .before .before .before .before .before .before .before .before .before .before .before .args .c .at) (c .before .before .before .before .before .before .before .before .before .before .before .look-ahead .result) (c .before .before .before .before .before .before .before .before .before .before .before .look-ahead .ensures) (c .before .before .before .before .before .before .before .before .before .before .if2 .taken) (c .before .before .before .before .before .before .before .before .before .see-choice .result) (c .before .before .before .before .before .before .before .before .before .see-choice .ensures) (c .before .before .before .both .result) (c .before .before .see-choice2 .result) (c .before .before .see-choice2 .ensures))))
 
-has-source-requires : tie.Need-has-source-requires
-has-source-requires c κs = search needs
-
 see-requires-2 : tie.Need-see-requires-2
 see-requires-2 c κs = (omega arith, omega (arith, held-place (c .before .before .before .before .before .before .before .before .before .before .before .before .before .before .before .before .before .args .s .now) _ 2 (held-clamp (c .before .before .before .before .before .before .before .before .before .before .before .before .before .before .before .before .before .args .s .now) (c .before .before .before .before .before .before .before .before .before .before .before .before .before .before .before .before .before .args .c .at) (c .before .before .before .before .before .before .before .before .before .before .before .before .before .look-ahead .result) (c .before .before .before .before .before .before .before .before .before .before .before .before .before .look-ahead .ensures) (c .before .before .before .before .before .before .before .before .before .before .before .before .if2 .taken) (c .before .before .before .before .before .before .before .before .before .before .before .see-choice .result) (c .before .before .before .before .before .before .before .before .before .before .before .see-choice .ensures) (c .before .before .before .before .before .both .result) (c .before .before .before .before .see-choice2 .result) (c .before .before .before .before .see-choice2 .ensures) (c .before .before .either2 .result) (c .before .see .result) (c .before .see .ensures))))
-
-begin-requires : tie.Need-begin-requires
-begin-requires c κs = search needs
 
 returns : tie.Need-returns
 returns c =
@@ -49,27 +28,21 @@ returns c =
     (c .before .before .before .before .before .before .before .before .before .either .result) (c .before .before .before .before .before .before .before .before .before .either .ensures) (c .before .before .before .before .before .before .before .before .both .ensures) (c .before .before .before .before .before .either2 .ensures)
     (c .before .before .before .has-source .result) (c .before .before .before .has-source .ensures) (c .before .before .see2 .result) (c .before .before .see2 .ensures) (c .begin .result) (c .begin .ensures))
 
-read-blending-fields-requires : tie.Need-read-blending-fields-requires
-read-blending-fields-requires c κs = search needs
-
-returns-2 : tie.Need-returns-2
-returns-2 c = search needs
-
 pub read-blending-if-spec : {M : Type 1} → statement M
 read-blending-if-spec =
     tie.close
     (tie.spec
-    idle-requires
-    look-ahead-requires
+    (λ c κs. search needs)
+    (λ c κs. search needs)
     see-choice-requires
-    either-requires
-    both-requires
+    (λ c κs. search needs)
+    (λ c κs. search needs)
     see-choice-requires-2
-    either-requires-2
+    (λ c κs. search needs)
     see-requires
-    has-source-requires
+    (λ c κs. search needs)
     see-requires-2
-    begin-requires
+    (λ c κs. search needs)
     returns
-    read-blending-fields-requires
-    returns-2)
+    (λ c κs. search needs)
+    (λ c. search needs))

@@ -8,9 +8,6 @@ use borrow.Author.Needs.{needs}
 use Rattle.header.proofs.blending.see_choice.Statement.{statement}
 use Rattle.header.proofs.blending.see_choice.Tie as tie
 
-see-requires : tie.Need-see-requires
-see-requires c κs = search needs
-
 see-requires-2 : tie.Need-see-requires-2
 see-requires-2 c κs = (c .before .before .pre .0, omega (arith, c .before .before .pre .1, seen-within (c .before .before .args .w) (c .before .before .args .on) 2 (c .before .see .result) (c .before .see .ensures) .1))
 
@@ -21,4 +18,4 @@ returns : tie.Need-returns
 returns c = chosen-is (c .before .before .before .before .before .before .args .w) (c .before .before .before .before .before .before .args .on) (c .before .before .before .before .before .before .args .n) (c .before .before .before .before .before .see .result) (c .before .before .before .see2 .result) (c .before .before .before .before .before .see .ensures) (c .before .before .before .see2 .ensures)
 
 pub see-choice-spec : {M : Type 1} → statement M
-see-choice-spec = tie.close (tie.spec see-requires see-requires-2 add-t8 returns)
+see-choice-spec = tie.close (tie.spec (λ c κs. search needs) see-requires-2 add-t8 returns)

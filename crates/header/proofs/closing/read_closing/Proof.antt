@@ -6,72 +6,6 @@ use Rattle.header.proofs.Bundles.{closing-law}
 use Rattle.header.proofs.closing.read_closing.Statement.{statement}
 use Rattle.header.proofs.closing.read_closing.Tie as tie
 
-either-requires : tie.Need-either-requires
-either-requires c κs = search needs
-
-both-requires : tie.Need-both-requires
-both-requires c κs = search needs
-
-both-requires-2 : tie.Need-both-requires-2
-both-requires-2 c κs = search needs
-
-duration-choices-requires : tie.Need-duration-choices-requires
-duration-choices-requires c κs = search needs
-
-read-u32-if-requires : tie.Need-read-u32-if-requires
-read-u32-if-requires c κs = search needs
-
-both-requires-3 : tie.Need-both-requires-3
-both-requires-3 c κs = search needs
-
-both-requires-4 : tie.Need-both-requires-4
-both-requires-4 c κs = search needs
-
-read-bits-if-requires : tie.Need-read-bits-if-requires
-read-bits-if-requires c κs = search needs
-
-either-number-requires : tie.Need-either-number-requires
-either-number-requires c κs = search needs
-
-read-bool-if-requires : tie.Need-read-bool-if-requires
-read-bool-if-requires c κs = search needs
-
-both-requires-5 : tie.Need-both-requires-5
-both-requires-5 c κs = search needs
-
-both-requires-6 : tie.Need-both-requires-6
-both-requires-6 c κs = search needs
-
-read-bits-if-requires-2 : tie.Need-read-bits-if-requires-2
-read-bits-if-requires-2 c κs = search needs
-
-either-requires-2 : tie.Need-either-requires-2
-either-requires-2 c κs = search needs
-
-both-requires-7 : tie.Need-both-requires-7
-both-requires-7 c κs = search needs
-
-both-requires-8 : tie.Need-both-requires-8
-both-requires-8 c κs = search needs
-
-either-requires-3 : tie.Need-either-requires-3
-either-requires-3 c κs = search needs
-
-both-requires-9 : tie.Need-both-requires-9
-both-requires-9 c κs = search needs
-
-either-number-requires-2 : tie.Need-either-number-requires-2
-either-number-requires-2 c κs = search needs
-
-read-bool-if-requires-2 : tie.Need-read-bool-if-requires-2
-read-bool-if-requires-2 c κs = search needs
-
-name-choices-requires : tie.Need-name-choices-requires
-name-choices-requires c κs = search needs
-
-read-u32-if-requires-2 : tie.Need-read-u32-if-requires-2
-read-u32-if-requires-2 c κs = search needs
-
 returns : tie.Need-returns
 returns c =
     ap closingRead
@@ -89,26 +23,26 @@ pub read-closing-spec : {M : Type 1} → statement M
 read-closing-spec =
     tie.close
     (tie.spec
-    either-requires
-    both-requires
-    both-requires-2
-    duration-choices-requires
-    read-u32-if-requires
-    both-requires-3
-    both-requires-4
-    read-bits-if-requires
-    either-number-requires
-    read-bool-if-requires
-    both-requires-5
-    both-requires-6
-    read-bits-if-requires-2
-    either-requires-2
-    both-requires-7
-    both-requires-8
-    either-requires-3
-    both-requires-9
-    either-number-requires-2
-    read-bool-if-requires-2
-    name-choices-requires
-    read-u32-if-requires-2
+    (λ c κs. search needs)
+    (λ c κs. search needs)
+    (λ c κs. search needs)
+    (λ c κs. search needs)
+    (λ c κs. search needs)
+    (λ c κs. search needs)
+    (λ c κs. search needs)
+    (λ c κs. search needs)
+    (λ c κs. search needs)
+    (λ c κs. search needs)
+    (λ c κs. search needs)
+    (λ c κs. search needs)
+    (λ c κs. search needs)
+    (λ c κs. search needs)
+    (λ c κs. search needs)
+    (λ c κs. search needs)
+    (λ c κs. search needs)
+    (λ c κs. search needs)
+    (λ c κs. search needs)
+    (λ c κs. search needs)
+    (λ c κs. search needs)
+    (λ c κs. search needs)
     returns)

@@ -4,12 +4,9 @@ use Rattle.header.specs.Defaults.{defaultBack}
 use Rattle.header.proofs.defaults.default_back.Statement.{statement}
 use Rattle.header.proofs.defaults.default_back.Tie as tie
 
-default-filter-requires : tie.Need-default-filter-requires
-default-filter-requires c κs = search needs
-
 returns : tie.Need-returns
 unfolding defaultBack
 returns c = rw (c .default-filter .ensures)
 
 pub default-back-spec : {M : Type 1} → statement M
-default-back-spec = tie.close (tie.spec default-filter-requires returns)
+default-back-spec = tie.close (tie.spec (λ c κs. search needs) returns)

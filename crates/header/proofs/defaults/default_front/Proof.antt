@@ -4,12 +4,9 @@ use Rattle.header.specs.Defaults.{defaultFront}
 use Rattle.header.proofs.defaults.default_front.Statement.{statement}
 use Rattle.header.proofs.defaults.default_front.Tie as tie
 
-either-number-requires : tie.Need-either-number-requires
-either-number-requires c κs = search needs
-
 returns : tie.Need-returns
 unfolding defaultFront
 returns c = rw (c .either-number .ensures)
 
 pub default-front-spec : {M : Type 1} → statement M
-default-front-spec = tie.close (tie.spec either-number-requires returns)
+default-front-spec = tie.close (tie.spec (λ c κs. search needs) returns)

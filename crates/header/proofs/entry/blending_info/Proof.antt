@@ -5,11 +5,8 @@ use Rattle.header.proofs.Entering.{info-is}
 use Rattle.header.proofs.entry.blending_info.Statement.{statement}
 use Rattle.header.proofs.entry.blending_info.Tie as tie
 
-blend-mode-of-requires : tie.Need-blend-mode-of-requires
-blend-mode-of-requires c κs = search needs
-
 returns : tie.Need-returns
 returns c = info-is (c .before .before .args .b) _ (c .before .blend-mode-of .ensures)
 
 pub blending-info-spec : {M : Type 1} → statement M
-blending-info-spec = tie.close (tie.spec blend-mode-of-requires returns)
+blending-info-spec = tie.close (tie.spec (λ c κs. search needs) returns)

@@ -5,38 +5,11 @@ use Rattle.header.proofs.Entering.{too-long, bad-facts, short, good}
 use Rattle.header.proofs.entry.judge.Statement.{statement}
 use Rattle.header.proofs.entry.judge.Tie as tie
 
-refused-requires : tie.Need-refused-requires
-refused-requires c κs = search needs
-
 returns : tie.Need-returns
 returns c = too-long (c .before .before .args .n) (c .before .before .args .f) (c .before .before .args .name) (c .before .before .args .upsampling) (c .before .before .args .blending) _ (c .before .if1 .taken) (c .refused .ensures)
 
-bad-facts-requires : tie.Need-bad-facts-requires
-bad-facts-requires c κs = search needs
-
-refused-requires-2 : tie.Need-refused-requires-2
-refused-requires-2 c κs = search needs
-
 returns-2 : tie.Need-returns-2
 returns-2 c = bad-facts (c .before .before .before .before .args .n) (c .before .before .before .before .args .f) (c .before .before .before .before .args .name) (c .before .before .before .before .args .upsampling) (c .before .before .before .before .args .blending) _ (c .before .before .before .if1 .left) _ (c .before .before .bad-facts .ensures) (c .before .if2 .taken) (c .refused2 .ensures)
-
-cast-extra : tie.Need-cast-extra
-cast-extra c = search needs
-
-mul-either : tie.Need-mul-either
-mul-either c = search needs
-
-either-requires : tie.Need-either-requires
-either-requires c κs = search needs
-
-either-requires-2 : tie.Need-either-requires-2
-either-requires-2 c κs = search needs
-
-refused-requires-3 : tie.Need-refused-requires-3
-refused-requires-3 c κs = search needs
-
-accepted-requires : tie.Need-accepted-requires
-accepted-requires c κs = search needs
 
 returns-3 : tie.Need-returns-3
 returns-3 c = short (c .before .before .before .before .before .before .before .before .args .n) (c .before .before .before .before .before .before .before .before .args .f) (c .before .before .before .before .before .before .before .before .args .name) (c .before .before .before .before .before .before .before .before .args .upsampling) (c .before .before .before .before .before .before .before .before .args .blending) _ (c .before .before .before .before .before .before .before .if1 .left) _ (c .before .before .before .before .before .before .bad-facts .ensures) (c .before .before .before .before .before .if2 .left) _ _ (c .before .before .before .either .ensures) (c .before .before .either2 .ensures) (c .before .if3 .taken) (c .refused3 .ensures)
@@ -48,16 +21,16 @@ pub judge-spec : {M : Type 1} → statement M
 judge-spec =
     tie.close
     (tie.spec
-    refused-requires
+    (λ c κs. search needs)
     returns
-    bad-facts-requires
-    refused-requires-2
+    (λ c κs. search needs)
+    (λ c κs. search needs)
     returns-2
-    cast-extra
-    mul-either
-    either-requires
-    either-requires-2
-    refused-requires-3
-    accepted-requires
+    (λ c. search needs)
+    (λ c. search needs)
+    (λ c κs. search needs)
+    (λ c κs. search needs)
+    (λ c κs. search needs)
+    (λ c κs. search needs)
     returns-3
     returns-4)

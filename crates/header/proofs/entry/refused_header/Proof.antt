@@ -5,11 +5,8 @@ use Rattle.header.proofs.Entering.{refused-is}
 use Rattle.header.proofs.entry.refused_header.Statement.{statement}
 use Rattle.header.proofs.entry.refused_header.Tie as tie
 
-zero-header-requires : tie.Need-zero-header-requires
-zero-header-requires c κs = search needs
-
 returns : tie.Need-returns
 returns c = refused-is _ _ (c .zero-header .ensures)
 
 pub refused-header-spec : {M : Type 1} → statement M
-refused-header-spec = tie.close (tie.spec zero-header-requires returns)
+refused-header-spec = tie.close (tie.spec (λ c κs. search needs) returns)

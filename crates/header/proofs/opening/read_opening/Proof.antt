@@ -8,48 +8,6 @@ use Rattle.header.proofs.Bundles.{opening-law}
 use Rattle.header.proofs.opening.read_opening.Statement.{statement}
 use Rattle.header.proofs.opening.read_opening.Tie as tie
 
-read-bool-if-requires : tie.Need-read-bool-if-requires
-read-bool-if-requires c κs = search needs
-
-read-bits-if-requires : tie.Need-read-bits-if-requires
-read-bits-if-requires c κs = search needs
-
-read-bits-if-requires-2 : tie.Need-read-bits-if-requires-2
-read-bits-if-requires-2 c κs = search needs
-
-read-u64-if-requires : tie.Need-read-u64-if-requires
-read-u64-if-requires c κs = search needs
-
-both-requires : tie.Need-both-requires
-both-requires c κs = search needs
-
-read-bool-if-requires-2 : tie.Need-read-bool-if-requires-2
-read-bool-if-requires-2 c κs = search needs
-
-use-lf-frame-requires : tie.Need-use-lf-frame-requires
-use-lf-frame-requires c κs = search needs
-
-both-requires-2 : tie.Need-both-requires-2
-both-requires-2 c κs = search needs
-
-read-bits-if-requires-3 : tie.Need-read-bits-if-requires-3
-read-bits-if-requires-3 c κs = search needs
-
-read-bits-if-requires-4 : tie.Need-read-bits-if-requires-4
-read-bits-if-requires-4 c κs = search needs
-
-read-bits-if-requires-5 : tie.Need-read-bits-if-requires-5
-read-bits-if-requires-5 c κs = search needs
-
-both-requires-3 : tie.Need-both-requires-3
-both-requires-3 c κs = search needs
-
-upsampling-choices-requires : tie.Need-upsampling-choices-requires
-upsampling-choices-requires c κs = search needs
-
-read-u32-if-requires : tie.Need-read-u32-if-requires
-read-u32-if-requires c κs = search needs
-
 returns : tie.Need-returns
 returns c =
     ap openingRead
@@ -68,18 +26,18 @@ pub read-opening-spec : {M : Type 1} → statement M
 read-opening-spec =
     tie.close
     (tie.spec
-    read-bool-if-requires
-    read-bits-if-requires
-    read-bits-if-requires-2
-    read-u64-if-requires
-    both-requires
-    read-bool-if-requires-2
-    use-lf-frame-requires
-    both-requires-2
-    read-bits-if-requires-3
-    read-bits-if-requires-4
-    read-bits-if-requires-5
-    both-requires-3
-    upsampling-choices-requires
-    read-u32-if-requires
+    (λ c κs. search needs)
+    (λ c κs. search needs)
+    (λ c κs. search needs)
+    (λ c κs. search needs)
+    (λ c κs. search needs)
+    (λ c κs. search needs)
+    (λ c κs. search needs)
+    (λ c κs. search needs)
+    (λ c κs. search needs)
+    (λ c κs. search needs)
+    (λ c κs. search needs)
+    (λ c κs. search needs)
+    (λ c κs. search needs)
+    (λ c κs. search needs)
     returns)

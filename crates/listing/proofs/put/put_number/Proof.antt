@@ -6,9 +6,6 @@ use Rattle.listing.proofs.Columns.{digits-start, digits-size, digits-te
 use Rattle.listing.proofs.put.put_number.Statement.{statement}
 use Rattle.listing.proofs.put.put_number.Tie as tie
 
-write-number-requires : tie.Need-write-number-requires
-write-number-requires c κs = search needs
-
 sub-put-bytes : tie.Need-sub-put-bytes
 sub-put-bytes c = omega (arith, digits-start _ _ (c .before .before .write-number .ensures))
 
@@ -21,9 +18,6 @@ part-put-bytes-end c = omega (arith, digits-start _ _ (c .before .before .before
 put-bytes-requires : tie.Need-put-bytes-requires
 put-bytes-requires c κs = (omega arith, part-small (c .before .before .before .before .write-number .result .start) (drop (c .before .before .before .before .write-number .result .start) (c .before .before .before .before .write-number .result .bytes)))
 
-same-length : tie.Need-same-length
-same-length c = search needs
-
 returns : tie.Need-returns
 returns c = number-put (c .before .before .before .before .before .before .before .write-number .result .start) (c .before .before .before .before .before .before .before .before .before .args .n) (drop (c .before .before .before .before .before .before .before .write-number .result .start) (c .before .before .before .before .before .before .before .write-number .result .bytes)) (digits-text _ _ (c .before .before .before .before .before .before .before .write-number .ensures) (omega arith)) (c .before .before .put-bytes .ensures)
 
@@ -31,10 +25,10 @@ pub put-number-spec : {M : Type 1} → statement M
 put-number-spec =
     tie.close
     (tie.spec
-    write-number-requires
+    (λ c κs. search needs)
     sub-put-bytes
     part-put-bytes-start
     part-put-bytes-end
     put-bytes-requires
-    same-length
+    (λ c. search needs)
     returns)

@@ -6,32 +6,8 @@ use Rattle.listing.proofs.Walks.{row-put}
 use Rattle.listing.proofs.rows.put_row.Statement.{statement}
 use Rattle.listing.proofs.rows.put_row.Tie as tie
 
-shows-group-requires : tie.Need-shows-group-requires
-shows-group-requires c κs = search needs
-
-cast-put-number : tie.Need-cast-put-number
-cast-put-number c = search needs
-
-put-number-requires : tie.Need-put-number-requires
-put-number-requires c κs = search needs
-
-put-name-requires : tie.Need-put-name-requires
-put-name-requires c κs = search needs
-
-cast-put-column : tie.Need-cast-put-column
-cast-put-column c = search needs
-
-put-column-requires : tie.Need-put-column-requires
-put-column-requires c κs = search needs
-
-cast-put-column-2 : tie.Need-cast-put-column-2
-cast-put-column-2 c = search needs
-
 put-column-requires-2 : tie.Need-put-column-requires-2
 put-column-requires-2 c κs = omega (arith, c .before .before .before .before .put-column .ensures .1, c .before .before .before .before .before .before .before .before .before .before .put-name .ensures .1, c .before .before .before .before .before .before .before .before .before .before .before .before .before .before .put-number .ensures .1, c .before .before .before .before .before .before .before .before .before .before .before .before .before .before .before .before .before .before .before .before .pre)
-
-cast-put-column-3 : tie.Need-cast-put-column-3
-cast-put-column-3 c = search needs
 
 put-column-requires-3 : tie.Need-put-column-requires-3
 put-column-requires-3 c κs = omega (arith, c .before .before .before .before .put-column2 .ensures .1, c .before .before .before .before .before .before .before .before .before .put-column .ensures .1, c .before .before .before .before .before .before .before .before .before .before .before .before .before .before .before .put-name .ensures .1, c .before .before .before .before .before .before .before .before .before .before .before .before .before .before .before .before .before .before .before .put-number .ensures .1, c .before .before .before .before .before .before .before .before .before .before .before .before .before .before .before .before .before .before .before .before .before .before .before .before .before .pre)
@@ -39,14 +15,8 @@ put-column-requires-3 c κs = omega (arith, c .before .before .before .before .p
 put-column-requires-4 : tie.Need-put-column-requires-4
 put-column-requires-4 c κs = omega (arith, c .before .before .before .put-column3 .ensures .1, c .before .before .before .before .before .before .before .before .put-column2 .ensures .1, c .before .before .before .before .before .before .before .before .before .before .before .before .before .put-column .ensures .1, c .before .before .before .before .before .before .before .before .before .before .before .before .before .before .before .before .before .before .before .put-name .ensures .1, c .before .before .before .before .before .before .before .before .before .before .before .before .before .before .before .before .before .before .before .before .before .before .before .put-number .ensures .1, c .before .before .before .before .before .before .before .before .before .before .before .before .before .before .before .before .before .before .before .before .before .before .before .before .before .before .before .before .before .pre)
 
-cast-put-column-4 : tie.Need-cast-put-column-4
-cast-put-column-4 c = search needs
-
 put-column-requires-5 : tie.Need-put-column-requires-5
 put-column-requires-5 c κs = omega (arith, c .before .before .before .before .put-column4 .ensures .1, c .before .before .before .before .before .before .before .before .put-column3 .ensures .1, c .before .before .before .before .before .before .before .before .before .before .before .before .before .put-column2 .ensures .1, c .before .before .before .before .before .before .before .before .before .before .before .before .before .before .before .before .before .before .put-column .ensures .1, c .before .before .before .before .before .before .before .before .before .before .before .before .before .before .before .before .before .before .before .before .before .before .before .before .put-name .ensures .1, c .before .before .before .before .before .before .before .before .before .before .before .before .before .before .before .before .before .before .before .before .before .before .before .before .before .before .before .before .put-number .ensures .1, c .before .before .before .before .before .before .before .before .before .before .before .before .before .before .before .before .before .before .before .before .before .before .before .before .before .before .before .before .before .before .before .before .before .before .pre)
-
-either-requires : tie.Need-either-requires
-either-requires c κs = search needs
 
 put-rect-requires : tie.Need-put-rect-requires
 put-rect-requires c κs = omega (arith, c .before .before .before .before .before .put-column5 .ensures .1, c .before .before .before .before .before .before .before .before .before .before .put-column4 .ensures .1, c .before .before .before .before .before .before .before .before .before .before .before .before .before .before .put-column3 .ensures .1, c .before .before .before .before .before .before .before .before .before .before .before .before .before .before .before .before .before .before .before .put-column2 .ensures .1, c .before .before .before .before .before .before .before .before .before .before .before .before .before .before .before .before .before .before .before .before .before .before .before .before .put-column .ensures .1, c .before .before .before .before .before .before .before .before .before .before .before .before .before .before .before .before .before .before .before .before .before .before .before .before .before .before .before .before .before .before .put-name .ensures .1, c .before .before .before .before .before .before .before .before .before .before .before .before .before .before .before .before .before .before .before .before .before .before .before .before .before .before .before .before .before .before .before .before .before .before .put-number .ensures .1, c .before .before .before .before .before .before .before .before .before .before .before .before .before .before .before .before .before .before .before .before .before .before .before .before .before .before .before .before .before .before .before .before .before .before .before .before .before .before .before .before .pre)
@@ -61,20 +31,20 @@ pub put-row-spec : {M : Type 1} → statement M
 put-row-spec =
     tie.close
     (tie.spec
-    shows-group-requires
-    cast-put-number
-    put-number-requires
-    put-name-requires
-    cast-put-column
-    put-column-requires
-    cast-put-column-2
+    (λ c κs. search needs)
+    (λ c. search needs)
+    (λ c κs. search needs)
+    (λ c κs. search needs)
+    (λ c. search needs)
+    (λ c κs. search needs)
+    (λ c. search needs)
     put-column-requires-2
-    cast-put-column-3
+    (λ c. search needs)
     put-column-requires-3
     put-column-requires-4
-    cast-put-column-4
+    (λ c. search needs)
     put-column-requires-5
-    either-requires
+    (λ c κs. search needs)
     put-rect-requires
     same-length
     returns)

@@ -5,20 +5,11 @@ use Rattle.listing.proofs.Showing.{rect-lf, rect-group, rect-all, rect-
 use Rattle.listing.proofs.rows.rect_of.Statement.{statement}
 use Rattle.listing.proofs.rows.rect_of.Tie as tie
 
-lf-group-rect-requires : tie.Need-lf-group-rect-requires
-lf-group-rect-requires c κs = search needs
-
 returns : tie.Need-returns
 returns c = rect-lf (gridOf (c .before .before .before .before .args .f)) (c .before .before .before .before .args .k) _ (c .before .lf-group-rect .ensures) (c .before .before .if1 .taken)
 
-group-rect-requires : tie.Need-group-rect-requires
-group-rect-requires c κs = search needs
-
 returns-2 : tie.Need-returns-2
 returns-2 c = rect-group (gridOf (c .before .before .before .before .before .before .args .f)) (c .before .before .before .before .before .before .args .k) _ (c .before .group-rect .ensures) (c .before .before .before .before .if1 .left) (c .before .before .if2 .taken)
-
-whole-requires : tie.Need-whole-requires
-whole-requires c κs = search needs
 
 returns-3 : tie.Need-returns-3
 returns-3 c = rect-all (gridOf (c .before .before .before .before .before .before .before .args .f)) (c .before .before .before .before .before .before .before .args .k) _ (c .whole .ensures) (c .before .before .before .before .before .if1 .left) (c .before .before .before .if2 .left) (c .before .if3 .taken)
@@ -30,10 +21,10 @@ pub rect-of-spec : {M : Type 1} → statement M
 rect-of-spec =
     tie.close
     (tie.spec
-    lf-group-rect-requires
+    (λ c κs. search needs)
     returns
-    group-rect-requires
+    (λ c κs. search needs)
     returns-2
-    whole-requires
+    (λ c κs. search needs)
     returns-3
     returns-4)

@@ -7,29 +7,11 @@ use Rattle.bits.proofs.Codecs.{given, first-taken, first-cut, half-bad, half-go
 use Rattle.numbers.proofs.halves.read_f16_if.Statement.{statement}
 use Rattle.numbers.proofs.halves.read_f16_if.Tie as tie
 
-idle-requires : tie.Need-idle-requires
-idle-requires c κs = search needs
-
-kept-requires : tie.Need-kept-requires
-kept-requires c κs = search needs
-
 returns : tie.Need-returns
 returns c = field-passed (c .before .before .before .before .args .s .now) _ _ _ _ _ (c .before .before .idle .ensures) (c .before .if1 .taken) _ (c .kept .ensures)
 
-take-requires : tie.Need-take-requires
-take-requires c κs = search needs
-
-refused-at-requires : tie.Need-refused-at-requires
-refused-at-requires c κs = search needs
-
 returns-2 : tie.Need-returns-2
 returns-2 c = c .refused-at .ensures ∙ first-cut (c .before .before .before .before .before .before .before .args .s .now) (c .before .before .before .before .before .before .before .args .on) f16 _ _ _ (c .before .before .before .before .before .idle .ensures) _ _ refl (c .before .before .before .before .if1 .left) _ (c .before .before .before .take .ensures) (c .before .if2 .taken)
-
-refused-at-requires-2 : tie.Need-refused-at-requires-2
-refused-at-requires-2 c κs = search needs
-
-begin-requires : tie.Need-begin-requires
-begin-requires c κs = search needs
 
 returns-3 : tie.Need-returns-3
 returns-3 c =
@@ -51,13 +33,13 @@ pub read-f16-if-spec : {M : Type 1} → statement M
 read-f16-if-spec =
     tie.close
     (tie.spec
-    idle-requires
-    kept-requires
+    (λ c κs. search needs)
+    (λ c κs. search needs)
     returns
-    take-requires
-    refused-at-requires
+    (λ c κs. search needs)
+    (λ c κs. search needs)
     returns-2
-    refused-at-requires-2
-    begin-requires
+    (λ c κs. search needs)
+    (λ c κs. search needs)
     returns-3
     returns-4)

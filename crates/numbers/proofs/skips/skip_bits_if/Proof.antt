@@ -12,38 +12,14 @@ use Rattle.bits.proofs.Codecs.{skip-cut, skip-goes}
 use Rattle.numbers.proofs.skips.skip_bits_if.Statement.{statement}
 use Rattle.numbers.proofs.skips.skip_bits_if.Tie as tie
 
-idle-requires : tie.Need-idle-requires
-idle-requires c κs = search needs
-
-kept-requires : tie.Need-kept-requires
-kept-requires c κs = search needs
-
 returns : tie.Need-returns
 returns c = c .kept .ensures ∙ sym (ap (λ (f : Field). f .next) (field-idle (c .before .before .before .before .args .s .now) (c .before .before .before .before .args .on) (skip (whole (c .before .before .before .before .args .n))) 0 _ _ (c .before .before .idle .ensures) (c .before .if1 .taken)))
-
-bit-count-requires : tie.Need-bit-count-requires
-bit-count-requires c κs = search needs
-
-stop-requires : tie.Need-stop-requires
-stop-requires c κs = search needs
 
 returns-2 : tie.Need-returns-2
 returns-2 c = skip-cut (c .before .before .before .before .before .before .before .args .s .now) _ _ _ _ (c .before .before .before .before .before .idle .ensures) (c .before .before .before .before .if1 .left) _ (c .stop .ensures) (omega arith)
 
-stop-requires-2 : tie.Need-stop-requires-2
-stop-requires-2 c κs = search needs
-
 returns-3 : tie.Need-returns-3
 returns-3 c = skip-cut (c .before .before .before .before .before .before .before .before .args .s .now) _ _ _ _ (c .before .before .before .before .before .before .idle .ensures) (c .before .before .before .before .before .if1 .left) _ (c .stop2 .ensures) (omega (arith, c .before .before .before .before .bit-count .ensures, c .before .if3 .taken))
-
-stop-requires-3 : tie.Need-stop-requires-3
-stop-requires-3 c κs = search needs
-
-add-begin : tie.Need-add-begin
-add-begin c = search needs
-
-begin-requires : tie.Need-begin-requires
-begin-requires c κs = search needs
 
 returns-4 : tie.Need-returns-4
 returns-4 c = skip-cut (c .before .before .before .before .before .before .before .before .before .before .args .s .now) _ _ _ _ (c .before .before .before .before .before .before .before .before .idle .ensures) (c .before .before .before .before .before .before .before .if1 .left) _ (c .stop3 .ensures) (omega (arith, c .before .before .before .before .before .before .bit-count .ensures, c .before .if4 .taken))
@@ -58,16 +34,16 @@ pub skip-bits-if-spec : {M : Type 1} → statement M
 skip-bits-if-spec =
     tie.close
     (tie.spec
-    idle-requires
-    kept-requires
+    (λ c κs. search needs)
+    (λ c κs. search needs)
     returns
-    bit-count-requires
-    stop-requires
+    (λ c κs. search needs)
+    (λ c κs. search needs)
     returns-2
-    stop-requires-2
+    (λ c κs. search needs)
     returns-3
-    stop-requires-3
-    add-begin
-    begin-requires
+    (λ c κs. search needs)
+    (λ c. search needs)
+    (λ c κs. search needs)
     returns-4
     returns-5)

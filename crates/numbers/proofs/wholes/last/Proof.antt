@@ -10,28 +10,13 @@ use Rattle.numbers.proofs.Long.{wide-given, joined, more-cut, more-ends
 use Rattle.numbers.proofs.wholes.last.Statement.{statement}
 use Rattle.numbers.proofs.wholes.last.Tie as tie
 
-take-requires : tie.Need-take-requires
-take-requires c κs = search needs
-
-wide-refused-requires : tie.Need-wide-refused-requires
-wide-refused-requires c κs = search needs
-
 returns : tie.Need-returns
 returns c = c .wide-refused .ensures ∙ ap wideOf (sym (more-cut (c .before .before .before .before .before .args .s .now) (c .before .before .before .before .before .args .p) (c .before .before .before .before .before .args .q) (c .before .before .before .before .before .args .v) _ (c .before .before .before .take .ensures) 0 (c .before .if1 .taken)))
-
-begin-requires : tie.Need-begin-requires
-begin-requires c κs = search needs
 
 returns-2 : tie.Need-returns-2
 returns-2 c =
     wide-given (c .before .before .before .before .before .before .before .args .s .now) (c .before .before .before .before .before .before .before .args .p) _ _ _ _ refl (c .begin .ensures)
     ∙ ap wideOf (sym (more-ends (c .before .before .before .before .before .before .before .args .s .now) (c .before .before .before .before .before .before .before .args .p) (c .before .before .before .before .before .before .before .args .q) (c .before .before .before .before .before .before .before .args .v) _ (c .before .before .before .before .before .take .ensures) 0 (c .before .before .before .if1 .left) (c .before .if2 .taken)))
-
-take-requires-2 : tie.Need-take-requires-2
-take-requires-2 c κs = search needs
-
-wide-refused-requires-2 : tie.Need-wide-refused-requires-2
-wide-refused-requires-2 c κs = search needs
 
 returns-3 : tie.Need-returns-3
 returns-3 c =
@@ -40,12 +25,6 @@ returns-3 c =
     more-last (c .before .before .before .before .before .before .before .before .before .before .args .s .now) (c .before .before .before .before .before .before .before .before .before .before .args .p) (c .before .before .before .before .before .before .before .before .before .before .args .q) (c .before .before .before .before .before .before .before .before .before .before .args .v) _ (c .before .before .before .before .before .before .before .before .take .ensures) (c .before .before .before .before .before .before .if1 .left) (c .before .before .before .before .if2 .left)
     ∙ run-cut (c .before .before .before .before .before .before .before .before .before .before .args .s .now) _ 4 (c .before .before .before .before .before .before .before .before .before .before .args .p) (λ x. gives (c .before .before .before .before .before .before .before .before .before .before .args .v + x * 2 ^ 60)) _ (c .before .before .before .take2 .ensures) (c .before .if3 .taken)
     ))
-
-cast-t9 : tie.Need-cast-t9
-cast-t9 c = search needs
-
-begin-requires-2 : tie.Need-begin-requires-2
-begin-requires-2 c κs = search needs
 
 returns-4 : tie.Need-returns-4
 returns-4 c =
@@ -59,14 +38,14 @@ pub last-spec : {M : Type 1} → statement M
 last-spec =
     tie.close
     (tie.spec
-    take-requires
-    wide-refused-requires
+    (λ c κs. search needs)
+    (λ c κs. search needs)
     returns
-    begin-requires
+    (λ c κs. search needs)
     returns-2
-    take-requires-2
-    wide-refused-requires-2
+    (λ c κs. search needs)
+    (λ c κs. search needs)
     returns-3
-    cast-t9
-    begin-requires-2
+    (λ c. search needs)
+    (λ c κs. search needs)
     returns-4)

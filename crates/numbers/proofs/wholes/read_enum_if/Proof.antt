@@ -6,23 +6,11 @@ use Rattle.bits.proofs.Codecs.{case-refused, case-unknown, case-known}
 use Rattle.numbers.proofs.wholes.read_enum_if.Statement.{statement}
 use Rattle.numbers.proofs.wholes.read_enum_if.Tie as tie
 
-idle-requires : tie.Need-idle-requires
-idle-requires c κs = search needs
-
-kept-requires : tie.Need-kept-requires
-kept-requires c κs = search needs
-
 returns : tie.Need-returns
 returns c = field-passed (c .before .before .before .before .args .s .now) _ _ _ _ _ (c .before .before .idle .ensures) (c .before .if1 .taken) _ (c .kept .ensures)
 
-read-u32-if-requires : tie.Need-read-u32-if-requires
-read-u32-if-requires c κs = search needs
-
 returns-2 : tie.Need-returns-2
 returns-2 c = case-refused (c .before .before .before .before .before .before .before .args .s .now) _ _ _ _ _ _ (c .before .before .before .before .before .idle .ensures) (c .before .before .before .before .if1 .left) _ (c .before .before .before .read-u32-if .ensures) (c .if2 .taken)
-
-refused-at-requires : tie.Need-refused-at-requires
-refused-at-requires c κs = search needs
 
 returns-3 : tie.Need-returns-3
 returns-3 c =
@@ -35,11 +23,11 @@ pub read-enum-if-spec : {M : Type 1} → statement M
 read-enum-if-spec =
     tie.close
     (tie.spec
-    idle-requires
-    kept-requires
+    (λ c κs. search needs)
+    (λ c κs. search needs)
     returns
-    read-u32-if-requires
+    (λ c κs. search needs)
     returns-2
-    refused-at-requires
+    (λ c κs. search needs)
     returns-3
     returns-4)

@@ -11,29 +11,11 @@ use Rattle.bits.proofs.Codecs.{u32-parts, u32-cut, u32-read}
 use Rattle.numbers.proofs.wholes.read_u32_if.Statement.{statement}
 use Rattle.numbers.proofs.wholes.read_u32_if.Tie as tie
 
-idle-requires : tie.Need-idle-requires
-idle-requires c κs = search needs
-
-kept-requires : tie.Need-kept-requires
-kept-requires c κs = search needs
-
 returns : tie.Need-returns
 returns c = field-passed (c .before .before .before .before .args .s .now) _ _ _ _ _ (c .before .before .idle .ensures) (c .before .if1 .taken) _ (c .kept .ensures)
 
-look-ahead-requires : tie.Need-look-ahead-requires
-look-ahead-requires c κs = search needs
-
-low-bits-requires : tie.Need-low-bits-requires
-low-bits-requires c κs = search needs
-
-choose-requires : tie.Need-choose-requires
-choose-requires c κs = search needs
-
 u32-is-there-requires : tie.Need-u32-is-there-requires
 u32-is-there-requires c κs = ap (λ (w : Ahead). w .whole) (c .before .before .look-ahead .ensures)
-
-refused-at-requires : tie.Need-refused-at-requires
-refused-at-requires c κs = search needs
 
 returns-2 : tie.Need-returns-2
 returns-2 c =
@@ -42,27 +24,15 @@ returns-2 c =
     ∙ u32-cut (a .s .now) (a .c .at) (a .d) _ (peeked (a .s .now) (a .c .at) 2 _ _ (omega arith) (ap (λ (w : Ahead). w .bits) (c .before .before .before .before .before .look-ahead .ensures)) (c .before .before .before .before .low-bits .ensures)) _ (c .before .before .before .choose .ensures) _ (c .before .before .u32-is-there .ensures) (c .before .if2 .taken)
     ∙ sym (field-run (a .s .now) (a .on) (u32 (a .d)) _ _ _ (c .before .before .before .before .before .before .before .idle .ensures) (c .before .before .before .before .before .before .if1 .left))
 
-low-bits-requires-2 : tie.Need-low-bits-requires-2
-low-bits-requires-2 c κs = search needs
-
-wrapping-add-u32-requires : tie.Need-wrapping-add-u32-requires
-wrapping-add-u32-requires c κs = search needs
-
 add-begin : tie.Need-add-begin
 add-begin c =
     let a = c .before .before .before .before .before .before .before .before .before .before .before .args in
     record { fits = omega (arith, u32-parts (a .s .now) (a .c .at) (c .before .before .before .before .before .choose .result .bits) _ (c .before .before .before .before .u32-is-there .ensures) (c .before .before .before .if2 .left)) }
 
-cast-begin : tie.Need-cast-begin
-cast-begin c = search needs
-
 add-begin-2 : tie.Need-add-begin-2
 add-begin-2 c =
     let a = c .before .before .before .before .before .before .before .before .before .before .before .before .args in
     record { fits = omega (arith, u32-parts (a .s .now) (a .c .at) (c .before .before .before .before .before .before .choose .result .bits) _ (c .before .before .before .before .before .u32-is-there .ensures) (c .before .before .before .before .if2 .left)) }
-
-begin-requires : tie.Need-begin-requires
-begin-requires c κs = search needs
 
 returns-3 : tie.Need-returns-3
 returns-3 c =
@@ -80,19 +50,19 @@ pub read-u32-if-spec : {M : Type 1} → statement M
 read-u32-if-spec =
     tie.close
     (tie.spec
-    idle-requires
-    kept-requires
+    (λ c κs. search needs)
+    (λ c κs. search needs)
     returns
-    look-ahead-requires
-    low-bits-requires
-    choose-requires
+    (λ c κs. search needs)
+    (λ c κs. search needs)
+    (λ c κs. search needs)
     u32-is-there-requires
-    refused-at-requires
+    (λ c κs. search needs)
     returns-2
-    low-bits-requires-2
-    wrapping-add-u32-requires
+    (λ c κs. search needs)
+    (λ c κs. search needs)
     add-begin
-    cast-begin
+    (λ c. search needs)
     add-begin-2
-    begin-requires
+    (λ c κs. search needs)
     returns-3)

@@ -9,26 +9,11 @@ use Rattle.numbers.proofs.Long.{wide-given, long-0, long-1, long-2, lon
 use Rattle.numbers.proofs.wholes.read_u64_if.Statement.{statement}
 use Rattle.numbers.proofs.wholes.read_u64_if.Tie as tie
 
-idle-requires : tie.Need-idle-requires
-idle-requires c κs = search needs
-
-kept-requires : tie.Need-kept-requires
-kept-requires c κs = search needs
-
 returns : tie.Need-returns
 returns c = ap wideOf (field-passed (c .before .before .before .before .args .s .now) (c .before .before .before .before .args .on) u64 _ _ _ (c .before .before .idle .ensures) (c .before .if1 .taken) _ (c .kept .ensures))
 
-take-requires : tie.Need-take-requires
-take-requires c κs = search needs
-
-wide-refused-requires : tie.Need-wide-refused-requires
-wide-refused-requires c κs = search needs
-
 returns-2 : tie.Need-returns-2
 returns-2 c = c .wide-refused .ensures ∙ ap wideOf (first-cut (c .before .before .before .before .before .before .before .args .s .now) (c .before .before .before .before .before .before .before .args .on) u64 _ _ _ (c .before .before .before .before .before .idle .ensures) _ _ refl (c .before .before .before .before .if1 .left) _ (c .before .before .before .take .ensures) (c .before .if2 .taken))
-
-begin-requires : tie.Need-begin-requires
-begin-requires c κs = search needs
 
 returns-3 : tie.Need-returns-3
 returns-3 c =
@@ -38,9 +23,6 @@ returns-3 c =
     ∙ long-0 (c .before .before .before .before .before .before .before .before .before .args .s .now) _ _ _ (c .before .if3 .taken)
     ))
 
-short-requires : tie.Need-short-requires
-short-requires c κs = search needs
-
 returns-4 : tie.Need-returns-4
 returns-4 c =
     c .short .ensures
@@ -49,9 +31,6 @@ returns-4 c =
     ∙ long-1 (c .before .before .before .before .before .before .before .before .before .before .before .args .s .now) _ _ _ (c .before .if4 .taken)
     ))
 
-short-requires-2 : tie.Need-short-requires-2
-short-requires-2 c κs = search needs
-
 returns-5 : tie.Need-returns-5
 returns-5 c =
     c .short2 .ensures
@@ -59,9 +38,6 @@ returns-5 c =
     first-taken (c .before .before .before .before .before .before .before .before .before .before .before .before .before .args .s .now) (c .before .before .before .before .before .before .before .before .before .before .before .before .before .args .on) u64 _ _ _ (c .before .before .before .before .before .before .before .before .before .before .before .idle .ensures) 2 long refl (c .before .before .before .before .before .before .before .before .before .before .if1 .left) _ (c .before .before .before .before .before .before .before .before .before .take .ensures) (c .before .before .before .before .before .before .before .if2 .left)
     ∙ long-2 (c .before .before .before .before .before .before .before .before .before .before .before .before .before .args .s .now) _ _ _ (c .before .if5 .taken)
     ))
-
-longer-requires : tie.Need-longer-requires
-longer-requires c κs = search needs
 
 returns-6 : tie.Need-returns-6
 returns-6 c =
@@ -75,17 +51,17 @@ pub read-u64-if-spec : {M : Type 1} → statement M
 read-u64-if-spec =
     tie.close
     (tie.spec
-    idle-requires
-    kept-requires
+    (λ c κs. search needs)
+    (λ c κs. search needs)
     returns
-    take-requires
-    wide-refused-requires
+    (λ c κs. search needs)
+    (λ c κs. search needs)
     returns-2
-    begin-requires
+    (λ c κs. search needs)
     returns-3
-    short-requires
+    (λ c κs. search needs)
     returns-4
-    short-requires-2
+    (λ c κs. search needs)
     returns-5
-    longer-requires
+    (λ c κs. search needs)
     returns-6)

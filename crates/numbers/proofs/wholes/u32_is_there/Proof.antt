@@ -13,12 +13,6 @@ use Rattle.numbers.proofs.wholes.u32_is_there.Tie as tie
 returns : tie.Need-returns
 returns c = u32-wide (c .before .before .args .s .now) _ _ (c .if1 .taken)
 
-add-reaches : tie.Need-add-reaches
-add-reaches c = search needs
-
-reaches-requires : tie.Need-reaches-requires
-reaches-requires c κs = search needs
-
 returns-2 : tie.Need-returns-2
 returns-2 c =
     let a = c .before .before .before .args in
@@ -29,4 +23,4 @@ returns-3 : tie.Need-returns-3
 returns-3 c = c .reaches .ensures ∙ u32-narrow (c .before .before .before .before .args .s .now) _ _ (c .before .before .if1 .left)
 
 pub u32-is-there-spec : {M : Type 1} → statement M
-u32-is-there-spec = tie.close (tie.spec returns add-reaches reaches-requires returns-2 returns-3)
+u32-is-there-spec = tie.close (tie.spec returns (λ c. search needs) (λ c κs. search needs) returns-2 returns-3)

@@ -5,9 +5,6 @@ use Rattle.numbers.proofs.Signed.{signed-even, half-is, minus-fits, les
 use Rattle.numbers.proofs.wholes.unpack_signed.Statement.{statement}
 use Rattle.numbers.proofs.wholes.unpack_signed.Tie as tie
 
-cast-half : tie.Need-cast-half
-cast-half c = search needs
-
 sub-result : tie.Need-sub-result
 sub-result c = minus-fits (c .before .args .n) (c .before .fits .n .fits)
 
@@ -21,4 +18,4 @@ returns-2 : tie.Need-returns-2
 returns-2 c = odd-is (c .before .args .n) (c .before .fits .n .fits) (c .if1 .left)
 
 pub unpack-signed-spec : {M : Type 1} → statement M
-unpack-signed-spec = tie.close (tie.spec cast-half sub-result sub-result-2 returns returns-2)
+unpack-signed-spec = tie.close (tie.spec (λ c. search needs) sub-result sub-result-2 returns returns-2)

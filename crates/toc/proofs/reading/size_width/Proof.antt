@@ -7,14 +7,8 @@ use borrow.Author.Needs.{needs}
 use Rattle.toc.proofs.reading.size_width.Statement.{statement}
 use Rattle.toc.proofs.reading.size_width.Tie as tie
 
-mul-result : tie.Need-mul-result
-mul-result c = search needs
-
-shr-result : tie.Need-shr-result
-shr-result c = search needs
-
 returns : tie.Need-returns
 returns c = and-mask (538447884 / 2 ^ (8 * c .args .k)) 8 ∙ size-widths (c .args .k) (c .pre)
 
 pub size-width-spec : {M : Type 1} → statement M
-size-width-spec = tie.close (tie.spec mul-result shr-result returns)
+size-width-spec = tie.close (tie.spec (λ c. search needs) (λ c. search needs) returns)

@@ -1,0 +1,12 @@
+-- A place that the slice hasn't changes nothing.
+use borrow.Author.Needs.{needs}
+use mathlib.Core.Path.{sym}
+use lib.Seq.{set-out}
+use Rattle.c_words.proofs.heads.put_float.Statement.{statement}
+use Rattle.c_words.proofs.heads.put_float.Tie as tie
+
+returns-2 : tie.Need-returns-2
+returns-2 c = sym (set-out (c .before .args .out .now) (c .before .args .k) (c .before .args .v) (c .if1 .left))
+
+pub put-float-spec : {M : Type 1} → statement M
+put-float-spec = tie.close (tie.spec (λ c. search needs) (λ c. search needs) (λ c. search needs) (λ c. search needs) returns-2)
