@@ -15,29 +15,17 @@ Inv-loop s limit v₀ i₀ v i = Scans limit s v i
 abbrev μ-loop : tie.MeasureT-loop
 μ-loop s limit v₀ i₀ v i = length s - i
 
-leads-requires : tie.Need-leads-requires Inv-loop μ-loop
-leads-requires c κs = search needs
-
 returns : tie.Need-returns Inv-loop μ-loop
 returns c = headless (c .before .before .before .args .limit) (c .before .before .before .args .s .now) (sym (c .before .leads .ensures) ∙ not-true _ (c .if1 .taken))
 
 loop-holds : tie.Need-loop-holds Inv-loop μ-loop
 loop-holds c = scans-none (c .before .before .before .args .limit) (c .before .before .before .args .s .now) (sym (c .before .leads .ensures) ∙ not-false _ (c .if1 .left))
 
-shared-slice-read-b : tie.Need-shared-slice-read-b Inv-loop μ-loop
-shared-slice-read-b c = search needs
-
-is-digit-requires : tie.Need-is-digit-requires Inv-loop μ-loop
-is-digit-requires c κs = search needs
-
 returns-2 : tie.Need-returns-2 Inv-loop μ-loop
 returns-2 c = scans-other (c .before .before .before .before .before .before .before .before .args .limit) (c .before .before .before .before .before .before .before .before .args .s .now) _ _ (c .before .before .before .before .loop .inv) (c .before .before .before .loop-test .taken) _ refl (sym (c .before .is-digit .ensures) ∙ not-true _ (c .if2 .taken))
 
 sub-wide : tie.Need-sub-wide Inv-loop μ-loop
 sub-wide c = omega (arith, digit-small (getD (c .before .before .before .before .before .before .before .before .args .s .now) (c .before .before .before .before .loop .i) 0) (sym (c .before .is-digit .ensures) ∙ not-false _ (c .if2 .left)))
-
-wide-requires : tie.Need-wide-requires Inv-loop μ-loop
-wide-requires c κs = search needs
 
 fits-requires : tie.Need-fits-requires Inv-loop μ-loop
 fits-requires c κs = omega (arith, c .wide .ensures, digit-small (getD (c .before .before .before .before .before .before .before .before .before .args .s .now) (c .before .before .before .before .before .loop .i) 0) (sym (c .before .before .is-digit .ensures) ∙ not-false _ (c .before .if2 .left)))
@@ -51,12 +39,6 @@ mul-v c = let t = sym (c .before .fits2 .ensures) ∙ not-false _ (c .if3 .left)
 add-v : tie.Need-add-v Inv-loop μ-loop
 add-v c = let t = sym (c .before .fits2 .ensures) ∙ not-false _ (c .if3 .left) in omega (arith, leb-true)
 
-add-i : tie.Need-add-i Inv-loop μ-loop
-add-i c = search needs
-
-loop-less : tie.Need-loop-less Inv-loop μ-loop
-loop-less c = search needs
-
 loop-again : tie.Need-loop-again Inv-loop μ-loop
 loop-again c = scans-more (c .before .before .before .before .before .before .before .before .before .before .before .args .limit) (c .before .before .before .before .before .before .before .before .before .before .before .args .s .now) _ _ (c .before .before .before .before .before .before .before .loop .inv) (c .before .before .before .before .before .before .loop-test .taken) _ refl (sym (c .before .before .before .before .is-digit .ensures) ∙ not-false _ (c .before .before .before .if2 .left)) _ (c .before .before .wide .ensures) (sym (c .before .fits2 .ensures) ∙ not-false _ (c .if3 .left))
 
@@ -69,19 +51,19 @@ read-number-spec =
     (tie.spec
     Inv-loop
     μ-loop
-    leads-requires
+    (λ c κs. search needs)
     returns
     loop-holds
-    shared-slice-read-b
-    is-digit-requires
+    (λ c. search needs)
+    (λ c κs. search needs)
     returns-2
     sub-wide
-    wide-requires
+    (λ c κs. search needs)
     fits-requires
     returns-3
     mul-v
     add-v
-    add-i
-    loop-less
+    (λ c. search needs)
+    (λ c. search needs)
     loop-again
     returns-4)

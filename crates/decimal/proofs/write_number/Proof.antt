@@ -15,26 +15,11 @@ abbrev μ-loop : tie.MeasureT-loop
 loop-holds : tie.Need-loop-holds Inv-loop μ-loop
 loop-holds c = spells-none (c .args .n) (omega arith)
 
-sub-i : tie.Need-sub-i Inv-loop μ-loop
-sub-i c = search needs
-
-glyph-requires : tie.Need-glyph-requires Inv-loop μ-loop
-glyph-requires c κs = search needs
-
 array-write-bytes : tie.Need-array-write-bytes Inv-loop μ-loop
 array-write-bytes c = spells-at _ _ _ _ (c .before .before .loop .inv)
 
-loop-less : tie.Need-loop-less Inv-loop μ-loop
-loop-less c = search needs
-
 loop-again : tie.Need-loop-again Inv-loop μ-loop
 loop-again c = spells-more _ _ _ _ (c .before .before .loop .inv) _ (c .glyph .ensures) (c .before .loop-test .taken)
-
-sub-i-2 : tie.Need-sub-i-2 Inv-loop μ-loop
-sub-i-2 c = search needs
-
-glyph-requires-2 : tie.Need-glyph-requires-2 Inv-loop μ-loop
-glyph-requires-2 c κs = search needs
 
 array-write-bytes-2 : tie.Need-array-write-bytes-2 Inv-loop μ-loop
 array-write-bytes-2 c = spells-at _ _ _ _ (c .before .before .loop .inv)
@@ -49,12 +34,12 @@ write-number-spec =
     Inv-loop
     μ-loop
     loop-holds
-    sub-i
-    glyph-requires
+    (λ c. search needs)
+    (λ c κs. search needs)
     array-write-bytes
-    loop-less
+    (λ c. search needs)
     loop-again
-    sub-i-2
-    glyph-requires-2
+    (λ c. search needs)
+    (λ c κs. search needs)
     array-write-bytes-2
     returns)

@@ -16,41 +16,17 @@ abbrev μ-loop : tie.MeasureT-loop
 loop-holds : tie.Need-loop-holds Inv-loop μ-loop
 loop-holds c = placing-none _ (take (c .before .before .args .count) (c .before .before .args .order .now)) (c .before .before .args .inverse .now)
 
-cast-i : tie.Need-cast-i Inv-loop μ-loop
-cast-i c = search needs
-
-same-length : tie.Need-same-length Inv-loop μ-loop
-same-length c = search needs
-
 returns : tie.Need-returns Inv-loop μ-loop
 returns c = placing-all _ (c .before .before .before .before .before .args .order .now) (c .before .before .before .before .before .args .count) _ _ _ (c .before .before .loop .inv) (omega arith)
 
-mul-put : tie.Need-mul-put Inv-loop μ-loop
-mul-put c = search needs
-
-shared-slice-read-put : tie.Need-shared-slice-read-put Inv-loop μ-loop
-shared-slice-read-put c = search needs
-
 cast-put : tie.Need-cast-put Inv-loop μ-loop
 cast-put c = omega (arith, c .shared-slice-known2 .given (c .before .before .before .before .loop .j))
-
-put-requires : tie.Need-put-requires Inv-loop μ-loop
-put-requires c κs = search needs
-
-add-j : tie.Need-add-j Inv-loop μ-loop
-add-j c = search needs
-
-loop-less : tie.Need-loop-less Inv-loop μ-loop
-loop-less c = search needs
 
 loop-again : tie.Need-loop-again Inv-loop μ-loop
 loop-again c =
     placing-more _ (c .before .before .before .before .before .before .before .before .before .before .args .order .now) _ _ _ _
     (c .before .before .before .before .before .before .before .loop .inv) _ (c .before .before .before .before .before .before .loop-test .taken)
     (c .before .before .before .before .before .if1 .left) (c .before .before .put .ensures)
-
-same-length-2 : tie.Need-same-length-2 Inv-loop μ-loop
-same-length-2 c = search needs
 
 returns-2 : tie.Need-returns-2 Inv-loop μ-loop
 returns-2 c = placing-all _ (c .before .before .before .before .args .order .now) (c .before .before .before .before .args .count) _ _ _ (c .before .loop .inv) (omega arith)
@@ -62,15 +38,15 @@ inverse-into-spec =
     Inv-loop
     μ-loop
     loop-holds
-    cast-i
-    same-length
+    (λ c. search needs)
+    (λ c. search needs)
     returns
-    mul-put
-    shared-slice-read-put
+    (λ c. search needs)
+    (λ c. search needs)
     cast-put
-    put-requires
-    add-j
-    loop-less
+    (λ c κs. search needs)
+    (λ c. search needs)
+    (λ c. search needs)
     loop-again
-    same-length-2
+    (λ c. search needs)
     returns-2)

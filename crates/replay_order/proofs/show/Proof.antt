@@ -11,57 +11,21 @@ Inv-loop t sum₀ i₀ t4 sum i = i ≤ length t
 abbrev μ-loop : tie.MeasureT-loop
 μ-loop t sum₀ i₀ t4 sum i = length t - i
 
-loop-holds : tie.Need-loop-holds Inv-loop μ-loop
-loop-holds c = search needs
-
-mul-mixed : tie.Need-mul-mixed Inv-loop μ-loop
-mul-mixed c = search needs
-
-shared-slice-read-mixed : tie.Need-shared-slice-read-mixed Inv-loop μ-loop
-shared-slice-read-mixed c = search needs
-
-mixed-requires : tie.Need-mixed-requires Inv-loop μ-loop
-mixed-requires c κs = search needs
-
-add-i : tie.Need-add-i Inv-loop μ-loop
-add-i c = search needs
-
-loop-less : tie.Need-loop-less Inv-loop μ-loop
-loop-less c = search needs
-
-loop-again : tie.Need-loop-again Inv-loop μ-loop
-loop-again c = search needs
-
-print-decimal-requires : tie.Need-print-decimal-requires Inv-loop μ-loop
-print-decimal-requires c κs = search needs
-
-first-requires : tie.Need-first-requires Inv-loop μ-loop
-first-requires c κs = search needs
-
-slice-aggregate-write-all : tie.Need-slice-aggregate-write-all Inv-loop μ-loop
-slice-aggregate-write-all c = search needs
-
-write-all-requires : tie.Need-write-all-requires Inv-loop μ-loop
-write-all-requires c κs = search needs
-
-returns : tie.Need-returns Inv-loop μ-loop
-returns c = search needs
-
 pub show-spec : {M : Type 1} → statement M
 show-spec =
     tie.close
     (tie.spec
     Inv-loop
     μ-loop
-    loop-holds
-    mul-mixed
-    shared-slice-read-mixed
-    mixed-requires
-    add-i
-    loop-less
-    loop-again
-    print-decimal-requires
-    first-requires
-    slice-aggregate-write-all
-    write-all-requires
-    returns)
+    (λ c. search needs)
+    (λ c. search needs)
+    (λ c. search needs)
+    (λ c κs. search needs)
+    (λ c. search needs)
+    (λ c. search needs)
+    (λ c. search needs)
+    (λ c κs. search needs)
+    (λ c κs. search needs)
+    (λ c. search needs)
+    (λ c κs. search needs)
+    (λ c. search needs))

@@ -16,38 +16,11 @@ Inv-loop s i end v₀ k₀ shift₀ v k shift = (i ≤ k) × (k ≤ i + 8) × (s
 abbrev μ-loop : tie.MeasureT-loop
 μ-loop s i end v₀ k₀ shift₀ v k shift = end - k
 
-add-least : tie.Need-add-least Inv-loop μ-loop
-add-least c = search needs
-
-least-requires : tie.Need-least-requires Inv-loop μ-loop
-least-requires c κs = search needs
-
 loop-holds : tie.Need-loop-holds Inv-loop μ-loop
 unfolding bitsAt
 loop-holds c =
     let none : c .before .before .args .i - c .before .before .args .i ≡ 0 = omega arith in
     (search needs, omega arith, omega arith, rw none refl)
-
-shared-slice-read-wide : tie.Need-shared-slice-read-wide Inv-loop μ-loop
-shared-slice-read-wide c = search needs
-
-wide-requires : tie.Need-wide-requires Inv-loop μ-loop
-wide-requires c κs = search needs
-
-cast-v : tie.Need-cast-v Inv-loop μ-loop
-cast-v c = search needs
-
-shl-v : tie.Need-shl-v Inv-loop μ-loop
-shl-v c = search needs
-
-add-k : tie.Need-add-k Inv-loop μ-loop
-add-k c = search needs
-
-add-shift : tie.Need-add-shift Inv-loop μ-loop
-add-shift c = search needs
-
-loop-less : tie.Need-loop-less Inv-loop μ-loop
-loop-less c = search needs
 
 loop-again : tie.Need-loop-again Inv-loop μ-loop
 loop-again c =
@@ -75,15 +48,15 @@ word-at-end-spec =
     (tie.spec
     Inv-loop
     μ-loop
-    add-least
-    least-requires
+    (λ c. search needs)
+    (λ c κs. search needs)
     loop-holds
-    shared-slice-read-wide
-    wide-requires
-    cast-v
-    shl-v
-    add-k
-    add-shift
-    loop-less
+    (λ c. search needs)
+    (λ c κs. search needs)
+    (λ c. search needs)
+    (λ c. search needs)
+    (λ c. search needs)
+    (λ c. search needs)
+    (λ c. search needs)
     loop-again
     returns)

@@ -17,24 +17,6 @@ abbrev μ-loop : tie.MeasureT-loop
 loop-holds : tie.Need-loop-holds Inv-loop μ-loop
 loop-holds c = filled-none nan (c .before .before .args .at) (c .before .before .args .values .now) (c .before .before .args .out .now)
 
-add-put-float : tie.Need-add-put-float Inv-loop μ-loop
-add-put-float c = search needs
-
-mul-put-float : tie.Need-mul-put-float Inv-loop μ-loop
-mul-put-float c = search needs
-
-shared-slice-read-put-float : tie.Need-shared-slice-read-put-float Inv-loop μ-loop
-shared-slice-read-put-float c = search needs
-
-put-float-requires : tie.Need-put-float-requires Inv-loop μ-loop
-put-float-requires c κs = search needs
-
-add-i : tie.Need-add-i Inv-loop μ-loop
-add-i c = search needs
-
-loop-less : tie.Need-loop-less Inv-loop μ-loop
-loop-less c = search needs
-
 loop-again : tie.Need-loop-again Inv-loop μ-loop
 loop-again c = filled-more nan (c .before .before .before .before .before .before .before .before .before .args .at) (c .before .before .before .before .before .before .before .before .before .args .values .now) (c .before .before .before .before .before .before .before .before .before .args .out .now) (c .before .before .before .before .before .before .loop .out) _ (c .before .before .before .before .before .before .loop .i) (c .before .before .before .before .before .before .loop .inv) (c .before .before .before .before .before .loop-test .taken) _ refl (c .before .before .put-float .ensures)
 
@@ -51,12 +33,12 @@ put-floats-spec =
     Inv-loop
     μ-loop
     loop-holds
-    add-put-float
-    mul-put-float
-    shared-slice-read-put-float
-    put-float-requires
-    add-i
-    loop-less
+    (λ c. search needs)
+    (λ c. search needs)
+    (λ c. search needs)
+    (λ c κs. search needs)
+    (λ c. search needs)
+    (λ c. search needs)
     loop-again
     same-length
     returns)

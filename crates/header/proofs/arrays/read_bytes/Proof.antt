@@ -18,51 +18,6 @@ abbrev μ-loop : tie.MeasureT-loop
 loop-holds : tie.Need-loop-holds Inv-loop μ-loop
 loop-holds c = left-none (u 8) (c .before .before .args .count) (c .before .before .args .count) 0 (c .before .before .args .s .now) (c .before .before .args .out .now) (c .before .before .args .c)
 
-sub-take-four : tie.Need-sub-take-four Inv-loop μ-loop
-sub-take-four c = search needs
-
-take-four-requires : tie.Need-take-four-requires Inv-loop μ-loop
-take-four-requires c κs = search needs
-
-cast-k : tie.Need-cast-k Inv-loop μ-loop
-cast-k c = search needs
-
-byte-of-requires : tie.Need-byte-of-requires Inv-loop μ-loop
-byte-of-requires c κs = search needs
-
-put-byte-requires : tie.Need-put-byte-requires Inv-loop μ-loop
-put-byte-requires c κs = search needs
-
-add-put-byte : tie.Need-add-put-byte Inv-loop μ-loop
-add-put-byte c = search needs
-
-byte-of-requires-2 : tie.Need-byte-of-requires-2 Inv-loop μ-loop
-byte-of-requires-2 c κs = search needs
-
-put-byte-requires-2 : tie.Need-put-byte-requires-2 Inv-loop μ-loop
-put-byte-requires-2 c κs = search needs
-
-add-put-byte-2 : tie.Need-add-put-byte-2 Inv-loop μ-loop
-add-put-byte-2 c = search needs
-
-byte-of-requires-3 : tie.Need-byte-of-requires-3 Inv-loop μ-loop
-byte-of-requires-3 c κs = search needs
-
-put-byte-requires-3 : tie.Need-put-byte-requires-3 Inv-loop μ-loop
-put-byte-requires-3 c κs = search needs
-
-add-put-byte-3 : tie.Need-add-put-byte-3 Inv-loop μ-loop
-add-put-byte-3 c = search needs
-
-byte-of-requires-4 : tie.Need-byte-of-requires-4 Inv-loop μ-loop
-byte-of-requires-4 c κs = search needs
-
-put-byte-requires-4 : tie.Need-put-byte-requires-4 Inv-loop μ-loop
-put-byte-requires-4 c κs = search needs
-
-begin-requires : tie.Need-begin-requires Inv-loop μ-loop
-begin-requires c κs = search needs
-
 add-i : tie.Need-add-i Inv-loop μ-loop
 add-i c = omega (arith, four-there (c .before .before .before .before .before .before .before .before .before .before .before .before .before .before .before .before .before .before .before .before .before .before .before .before .before .before .before .args .s .now) (c .before .before .before .before .before .before .before .before .before .before .before .before .before .before .before .before .before .before .before .before .before .before .before .before .loop .at) (c .before .before .before .before .before .before .before .before .before .before .before .before .before .before .before .before .before .before .before .before .before .before .before .before .before .before .before .args .count - c .before .before .before .before .before .before .before .before .before .before .before .before .before .before .before .before .before .before .before .before .before .before .before .before .loop .i) (c .before .before .before .before .before .before .before .before .before .before .before .before .before .before .before .before .before .before .before .before .before .before .take-four .result) (c .before .before .before .before .before .before .before .before .before .before .before .before .before .before .before .before .before .before .before .before .before .before .take-four .ensures) (c .before .before .before .before .before .before .before .before .before .before .before .before .before .before .before .before .before .before .before .before .before .if1 .taken) .wanted, c .before .before .before .before .before .before .before .before .before .before .before .before .before .before .before .before .before .before .before .before .before .before .before .before .loop .inv .within, c .before .before .before .before .before .before .before .before .before .before .before .before .before .before .before .before .before .before .before .before .before .before .before .before .before .before .before .fits)
 
@@ -72,20 +27,8 @@ loop-less c = omega (arith, four-there (c .before .before .before .before .befor
 loop-again : tie.Need-loop-again Inv-loop μ-loop
 loop-again c = left-four (c .before .before .before .before .before .before .before .before .before .before .before .before .before .before .before .before .before .before .before .before .before .before .before .before .before .before .before .args .count) (c .before .before .before .before .before .before .before .before .before .before .before .before .before .before .before .before .before .before .before .before .before .before .before .before .before .before .before .args .s .now) (c .before .before .before .before .before .before .before .before .before .before .before .before .before .before .before .before .before .before .before .before .before .before .before .before .before .before .before .args .out .now) (c .before .before .before .before .before .before .before .before .before .before .before .before .before .before .before .before .before .before .before .before .before .before .before .before .before .before .before .args .c) (c .before .before .before .before .before .before .before .before .before .before .before .before .before .before .before .before .before .before .before .before .before .before .before .before .loop .out) (c .before .before .before .before .before .before .before .before .before .before .before .before .before .before .before .before .before .before .before .before .before .before .before .before .loop .at) (c .before .before .before .before .before .before .before .before .before .before .before .before .before .before .before .before .before .before .before .before .before .before .before .before .loop .i) (c .before .before .before .before .before .before .before .before .before .before .before .before .before .before .before .before .before .before .before .before .before .before .before .before .loop .inv) (c .before .before .before .before .before .before .before .before .before .before .before .before .before .before .before .before .before .before .before .before .before .before .take-four .result) (four-there (c .before .before .before .before .before .before .before .before .before .before .before .before .before .before .before .before .before .before .before .before .before .before .before .before .before .before .before .args .s .now) (c .before .before .before .before .before .before .before .before .before .before .before .before .before .before .before .before .before .before .before .before .before .before .before .before .loop .at) (c .before .before .before .before .before .before .before .before .before .before .before .before .before .before .before .before .before .before .before .before .before .before .before .before .before .before .before .args .count - c .before .before .before .before .before .before .before .before .before .before .before .before .before .before .before .before .before .before .before .before .before .before .before .before .loop .i) (c .before .before .before .before .before .before .before .before .before .before .before .before .before .before .before .before .before .before .before .before .before .before .take-four .result) (c .before .before .before .before .before .before .before .before .before .before .before .before .before .before .before .before .before .before .before .before .before .before .take-four .ensures) (c .before .before .before .before .before .before .before .before .before .before .before .before .before .before .before .before .before .before .before .before .before .if1 .taken)) _ _ _ _ _ _ _ _ _ (c .before .before .before .before .before .before .before .before .before .before .before .before .before .before .before .before .before .before .before .byte-of .ensures) (c .before .before .before .before .before .before .before .before .before .before .before .before .before .before .byte-of2 .ensures) (c .before .before .before .before .before .before .before .before .before .byte-of3 .ensures) (c .before .before .before .before .byte-of4 .ensures) (c .before .before .before .before .before .before .before .before .before .before .before .before .before .before .before .before .before .before .put-byte .ensures) (c .before .before .before .before .before .before .before .before .before .before .before .before .before .put-byte2 .ensures) (c .before .before .before .before .before .before .before .before .put-byte3 .ensures) (c .before .before .before .put-byte4 .ensures) (c .begin .ensures)
 
-read-bits-requires : tie.Need-read-bits-requires Inv-loop μ-loop
-read-bits-requires c κs = search needs
-
 byte-requires : tie.Need-byte-requires Inv-loop μ-loop
 byte-requires c κs = byte-lt (c .before .before .before .before .before .before .before .args .s .now) _ _ (c .read-bits .ensures)
-
-put-byte-requires-5 : tie.Need-put-byte-requires-5 Inv-loop μ-loop
-put-byte-requires-5 c κs = search needs
-
-add-i-2 : tie.Need-add-i-2 Inv-loop μ-loop
-add-i-2 c = search needs
-
-loop-less-2 : tie.Need-loop-less-2 Inv-loop μ-loop
-loop-less-2 c = search needs
 
 loop-again-2 : tie.Need-loop-again-2 Inv-loop μ-loop
 loop-again-2 c = left-more (u 8) (c .before .before .before .before .before .before .before .before .before .before .before .before .before .args .count) (c .before .before .before .before .before .before .before .before .before .before .before .before .before .args .count) 0 (c .before .before .before .before .before .before .before .before .before .before .before .before .before .args .s .now) (c .before .before .before .before .before .before .before .before .before .before .before .before .before .args .out .now) (c .before .before .before .before .before .before .before .before .before .before .before .before .before .args .c) (c .before .before .before .before .before .before .before .before .before .before .loop .out) (c .before .before .before .before .before .before .before .before .before .before .loop .at) (c .before .before .before .before .before .before .before .before .before .before .loop .i) (c .before .before .before .before .before .before .before .before .before .before .loop .inv) (c .before .before .before .before .before .before .before .before .before .loop-test .taken) (c .before .before .before .before .before .before .read-bits .result) _ _ (c .before .before .before .before .before .before .read-bits .ensures ∙ rw (← lt-ltb (c .before .before .before .before .before .before .before .before .before .before .loop .i) (c .before .before .before .before .before .before .before .before .before .before .before .before .before .args .count) (c .before .before .before .before .before .before .before .before .before .loop-test .taken))) (c .before .before .before .before .before .byte .ensures) (c .before .before .before .put-byte5 .ensures)
@@ -103,29 +46,29 @@ read-bytes-spec =
     Inv-loop
     μ-loop
     loop-holds
-    sub-take-four
-    take-four-requires
-    cast-k
-    byte-of-requires
-    put-byte-requires
-    add-put-byte
-    byte-of-requires-2
-    put-byte-requires-2
-    add-put-byte-2
-    byte-of-requires-3
-    put-byte-requires-3
-    add-put-byte-3
-    byte-of-requires-4
-    put-byte-requires-4
-    begin-requires
+    (λ c. search needs)
+    (λ c κs. search needs)
+    (λ c. search needs)
+    (λ c κs. search needs)
+    (λ c κs. search needs)
+    (λ c. search needs)
+    (λ c κs. search needs)
+    (λ c κs. search needs)
+    (λ c. search needs)
+    (λ c κs. search needs)
+    (λ c κs. search needs)
+    (λ c. search needs)
+    (λ c κs. search needs)
+    (λ c κs. search needs)
+    (λ c κs. search needs)
     add-i
     loop-less
     loop-again
-    read-bits-requires
+    (λ c κs. search needs)
     byte-requires
-    put-byte-requires-5
-    add-i-2
-    loop-less-2
+    (λ c κs. search needs)
+    (λ c. search needs)
+    (λ c. search needs)
     loop-again-2
     same-length
     returns)

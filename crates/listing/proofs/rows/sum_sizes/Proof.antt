@@ -15,20 +15,8 @@ abbrev μ-loop : tie.MeasureT-loop
 loop-holds : tie.Need-loop-holds Inv-loop μ-loop
 loop-holds c = sums-none (c .before .args .sizes .now) (c .before .args .count)
 
-word-requires : tie.Need-word-requires Inv-loop μ-loop
-word-requires c κs = search needs
-
-cast-total : tie.Need-cast-total Inv-loop μ-loop
-cast-total c = search needs
-
 add-total : tie.Need-add-total Inv-loop μ-loop
 add-total c = omega (arith, c .before .before .loop .inv .small, c .before .before .loop .inv .within)
-
-add-i : tie.Need-add-i Inv-loop μ-loop
-add-i c = search needs
-
-loop-less : tie.Need-loop-less Inv-loop μ-loop
-loop-less c = search needs
 
 loop-again : tie.Need-loop-again Inv-loop μ-loop
 loop-again c = sums-more (c .before .before .before .before .args .sizes .now) _ _ _ (c .before .before .loop .inv) _ (c .word .ensures) (omega arith) (c .before .loop-test .taken)
@@ -43,10 +31,10 @@ sum-sizes-spec =
     Inv-loop
     μ-loop
     loop-holds
-    word-requires
-    cast-total
+    (λ c κs. search needs)
+    (λ c. search needs)
     add-total
-    add-i
-    loop-less
+    (λ c. search needs)
+    (λ c. search needs)
     loop-again
     returns)

@@ -16,26 +16,8 @@ Inv-loop s on mask₀ at₀ sum₀ mask at sum =
 abbrev μ-loop : tie.MeasureT-loop
 μ-loop s on mask₀ at₀ sum₀ mask at sum = mask
 
-kept-requires : tie.Need-kept-requires Inv-loop μ-loop
-kept-requires c κs = search needs
-
-read-u64-if-requires : tie.Need-read-u64-if-requires Inv-loop μ-loop
-read-u64-if-requires c κs = search needs
-
-kept-requires-2 : tie.Need-kept-requires-2 Inv-loop μ-loop
-kept-requires-2 c κs = search needs
-
 loop-holds : tie.Need-loop-holds Inv-loop μ-loop
 loop-holds c = (64, search needs, omega arith, refl)
-
-read-u64-if-requires-2 : tie.Need-read-u64-if-requires-2 Inv-loop μ-loop
-read-u64-if-requires-2 c κs = search needs
-
-add-bits-requires : tie.Need-add-bits-requires Inv-loop μ-loop
-add-bits-requires c κs = search needs
-
-kept-requires-3 : tie.Need-kept-requires-3 Inv-loop μ-loop
-kept-requires-3 c κs = search needs
 
 loop-less : tie.Need-loop-less Inv-loop μ-loop
 loop-less c = omega (arith, c .before .before .before .loop-test .taken)
@@ -48,9 +30,6 @@ loop-again c =
       omega (arith, step .1, c .before .before .before .before .loop .inv .2, c .before .add-bits .ensures .1),
       c .before .before .before .before .loop .inv .3 ∙ step .3 ∙ rw (c .before .add-bits .ensures .0, c .kept3 .ensures),
     )
-
-skip-bits-if-requires : tie.Need-skip-bits-if-requires Inv-loop μ-loop
-skip-bits-if-requires c κs = search needs
 
 returns : tie.Need-returns Inv-loop μ-loop
 returns c =
@@ -67,14 +46,14 @@ read-extensions-if-spec =
     (tie.spec
     Inv-loop
     μ-loop
-    kept-requires
-    read-u64-if-requires
-    kept-requires-2
+    (λ c κs. search needs)
+    (λ c κs. search needs)
+    (λ c κs. search needs)
     loop-holds
-    read-u64-if-requires-2
-    add-bits-requires
-    kept-requires-3
+    (λ c κs. search needs)
+    (λ c κs. search needs)
+    (λ c κs. search needs)
     loop-less
     loop-again
-    skip-bits-if-requires
+    (λ c κs. search needs)
     returns)

@@ -18,17 +18,8 @@ Inv-loop s p q v₀ at₀ shift₀ v at shift =
 abbrev μ-loop : tie.MeasureT-loop
 μ-loop s p q v₀ at₀ shift₀ v at shift = 60 - shift
 
-take-requires : tie.Need-take-requires Inv-loop μ-loop
-take-requires c κs = search needs
-
-wide-refused-requires : tie.Need-wide-refused-requires Inv-loop μ-loop
-wide-refused-requires c κs = search needs
-
 returns : tie.Need-returns Inv-loop μ-loop
 returns c = c .wide-refused .ensures ∙ ap wideOf (sym (run-cut (c .before .before .before .before .before .args .s .now) (c .before .before .before .before .before .args .q) 12 (c .before .before .before .before .before .args .p) (more 6) _ (c .before .before .before .take .ensures) (c .before .if1 .taken)))
-
-cast-v : tie.Need-cast-v Inv-loop μ-loop
-cast-v c = search needs
 
 loop-holds : tie.Need-loop-holds Inv-loop μ-loop
 loop-holds c = (
@@ -38,30 +29,15 @@ loop-holds c = (
   run-take (c .before .before .before .before .before .args .s .now) (c .before .before .before .before .before .args .q) 12 (c .before .before .before .before .before .args .p) (more 6) _ (c .before .before .before .take .ensures) (c .before .if1 .left),
 )
 
-take-requires-2 : tie.Need-take-requires-2 Inv-loop μ-loop
-take-requires-2 c κs = search needs
-
-wide-refused-requires-2 : tie.Need-wide-refused-requires-2 Inv-loop μ-loop
-wide-refused-requires-2 c κs = search needs
-
 returns-2 : tie.Need-returns-2 Inv-loop μ-loop
 returns-2 c =
     c .wide-refused2 .ensures
     ∙ ap wideOf (sym (c .before .before .before .before .before .loop .inv .3 ∙ more-cut (c .before .before .before .before .before .before .before .before .before .before .before .args .s .now) (c .before .before .before .before .before .before .before .before .before .before .before .args .p) _ _ _ (c .before .before .before .take2 .ensures) _ (c .before .if2 .taken)))
 
-begin-requires : tie.Need-begin-requires Inv-loop μ-loop
-begin-requires c κs = search needs
-
 returns-3 : tie.Need-returns-3 Inv-loop μ-loop
 returns-3 c =
     wide-given (c .before .before .before .before .before .before .before .before .before .before .before .before .before .args .s .now) (c .before .before .before .before .before .before .before .before .before .before .before .before .before .args .p) _ _ _ _ refl (c .begin .ensures)
     ∙ ap wideOf (sym (c .before .before .before .before .before .before .before .loop .inv .3 ∙ more-ends (c .before .before .before .before .before .before .before .before .before .before .before .before .before .args .s .now) (c .before .before .before .before .before .before .before .before .before .before .before .before .before .args .p) _ _ _ (c .before .before .before .before .before .take2 .ensures) _ (c .before .before .before .if2 .left) (c .before .if3 .taken)))
-
-take-requires-3 : tie.Need-take-requires-3 Inv-loop μ-loop
-take-requires-3 c κs = search needs
-
-wide-refused-requires-3 : tie.Need-wide-refused-requires-3 Inv-loop μ-loop
-wide-refused-requires-3 c κs = search needs
 
 returns-4 : tie.Need-returns-4 Inv-loop μ-loop
 returns-4 c =
@@ -70,21 +46,6 @@ returns-4 c =
     c .before .before .before .before .before .before .before .before .before .before .loop .inv .3
     ∙ more-cut-8 (c .before .before .before .before .before .before .before .before .before .before .before .before .before .before .before .before .args .s .now) (c .before .before .before .before .before .before .before .before .before .before .before .before .before .before .before .before .args .p) _ _ _ (c .before .before .before .before .before .before .before .before .take2 .ensures) (c .before .before .before .before .before .before .if2 .left) (c .before .before .before .before .if3 .left) _ (c .before .before .before .before .before .before .before .before .before .loop-test .taken) (c .before .before .before .before .before .before .before .before .before .before .loop .inv .1) _ (c .before .before .before .take3 .ensures) (c .before .if4 .taken)
     ))
-
-cast-v-2 : tie.Need-cast-v-2 Inv-loop μ-loop
-cast-v-2 c = search needs
-
-cast-v-3 : tie.Need-cast-v-3 Inv-loop μ-loop
-cast-v-3 c = search needs
-
-shl-v : tie.Need-shl-v Inv-loop μ-loop
-shl-v c = search needs
-
-add-shift : tie.Need-add-shift Inv-loop μ-loop
-add-shift c = search needs
-
-loop-less : tie.Need-loop-less Inv-loop μ-loop
-loop-less c = search needs
 
 loop-again : tie.Need-loop-again Inv-loop μ-loop
 loop-again c = (
@@ -111,24 +72,24 @@ longer-spec =
     (tie.spec
     Inv-loop
     μ-loop
-    take-requires
-    wide-refused-requires
+    (λ c κs. search needs)
+    (λ c κs. search needs)
     returns
-    cast-v
+    (λ c. search needs)
     loop-holds
-    take-requires-2
-    wide-refused-requires-2
+    (λ c κs. search needs)
+    (λ c κs. search needs)
     returns-2
-    begin-requires
+    (λ c κs. search needs)
     returns-3
-    take-requires-3
-    wide-refused-requires-3
+    (λ c κs. search needs)
+    (λ c κs. search needs)
     returns-4
-    cast-v-2
-    cast-v-3
-    shl-v
-    add-shift
-    loop-less
+    (λ c. search needs)
+    (λ c. search needs)
+    (λ c. search needs)
+    (λ c. search needs)
+    (λ c. search needs)
     loop-again
     last-requires
     returns-5)

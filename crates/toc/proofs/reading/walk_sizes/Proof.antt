@@ -13,32 +13,14 @@ Inv-loop s count first at₀ total₀ k₀ at total k = (k ≤ count) × Walking
 abbrev μ-loop : tie.MeasureT-loop
 μ-loop s count first at₀ total₀ k₀ at total k = count - k
 
-zero-pad-to-byte-requires : tie.Need-zero-pad-to-byte-requires Inv-loop μ-loop
-zero-pad-to-byte-requires c κs = search needs
-
 loop-holds : tie.Need-loop-holds Inv-loop μ-loop
 loop-holds c = (omega arith, walking-none (c .before .before .args .s .now) _ 0)
-
-sub-read-pair : tie.Need-sub-read-pair Inv-loop μ-loop
-sub-read-pair c = search needs
-
-read-pair-requires : tie.Need-read-pair-requires Inv-loop μ-loop
-read-pair-requires c κs = search needs
-
-cast-total : tie.Need-cast-total Inv-loop μ-loop
-cast-total c = search needs
 
 add-total : tie.Need-add-total Inv-loop μ-loop
 add-total c = record { fits = pair-first-fits (c .before .before .before .before .before .before .before .args .s .now) _ 0 _ _ _ (c .before .before .before .before .loop .inv .1) _ (c .before .before .read-pair .result) (c .before .before .read-pair .ensures (c .before .if1 .taken)) (omega arith) (omega (arith, leb-true 2 (c .before .before .before .before .before .before .before .args .count - c .before .before .before .before .loop .k) (c .before .before .read-pair .ensures (c .before .if1 .taken) .wanted), c .before .before .before .before .before .before .before .fits)) }
 
-cast-total-2 : tie.Need-cast-total-2 Inv-loop μ-loop
-cast-total-2 c = search needs
-
 add-total-2 : tie.Need-add-total-2 Inv-loop μ-loop
 add-total-2 c = record { fits = pair-second-fits (c .before .before .before .before .before .before .before .before .args .s .now) _ 0 _ _ _ (c .before .before .before .before .before .loop .inv .1) _ (c .before .before .before .read-pair .result) (c .before .before .before .read-pair .ensures (c .before .before .if1 .taken)) (omega arith) (omega (arith, leb-true 2 (c .before .before .before .before .before .before .before .before .args .count - c .before .before .before .before .before .loop .k) (c .before .before .before .read-pair .ensures (c .before .before .if1 .taken) .wanted), c .before .before .before .before .before .before .before .before .fits)) }
-
-begin-requires : tie.Need-begin-requires Inv-loop μ-loop
-begin-requires c κs = search needs
 
 add-k : tie.Need-add-k Inv-loop μ-loop
 add-k c = omega (arith, leb-true 2 (c .before .before .before .before .before .before .before .before .before .args .count - c .before .before .before .before .before .before .loop .k) (c .before .before .before .before .read-pair .ensures (c .before .before .before .if1 .taken) .wanted), c .before .before .before .before .before .before .before .before .before .fits)
@@ -49,26 +31,11 @@ loop-less c = omega (arith, leb-true 2 (c .before .before .before .before .befor
 loop-again : tie.Need-loop-again Inv-loop μ-loop
 loop-again c = (omega (arith, leb-true 2 (c .before .before .before .before .before .before .before .before .before .args .count - c .before .before .before .before .before .before .loop .k) (c .before .before .before .before .read-pair .ensures (c .before .before .before .if1 .taken) .wanted)), pair-more (c .before .before .before .before .before .before .before .before .before .args .s .now) _ 0 _ _ _ (c .before .before .before .before .before .before .loop .inv .1) _ (c .before .before .before .before .read-pair .result) (c .before .before .before .before .read-pair .ensures (c .before .before .before .if1 .taken)) _ (c .begin .ensures))
 
-read-size-requires : tie.Need-read-size-requires Inv-loop μ-loop
-read-size-requires c κs = search needs
-
-cast-total-3 : tie.Need-cast-total-3 Inv-loop μ-loop
-cast-total-3 c = search needs
-
 add-total-3 : tie.Need-add-total-3 Inv-loop μ-loop
 add-total-3 c = record { fits = walking-fits (c .before .before .before .before .before .before .before .before .before .args .s .now) _ 0 _ _ _ (c .before .before .before .before .before .before .loop .inv .1) _ (c .before .before .read-size .ensures) (omega arith) (omega arith) }
 
-add-k-2 : tie.Need-add-k-2 Inv-loop μ-loop
-add-k-2 c = search needs
-
-loop-less-2 : tie.Need-loop-less-2 Inv-loop μ-loop
-loop-less-2 c = search needs
-
 loop-again-2 : tie.Need-loop-again-2 Inv-loop μ-loop
 loop-again-2 c = (omega arith, walking-more (c .before .before .before .before .before .before .before .before .before .args .s .now) _ 0 _ _ _ (c .before .before .before .before .before .before .loop .inv .1) _ (c .before .before .read-size .ensures))
-
-zero-pad-to-byte-requires-2 : tie.Need-zero-pad-to-byte-requires-2 Inv-loop μ-loop
-zero-pad-to-byte-requires-2 c κs = search needs
 
 returns : tie.Need-returns Inv-loop μ-loop
 returns c = walk-done (c .before .before .before .before .before .args .s .now) _ _ _ _ _ _ _ (c .before .before .before .zero-pad-to-byte .ensures) (c .before .before .loop .inv .0) (c .before .loop-test .left) (c .before .before .loop .inv .1) (c .zero-pad-to-byte2 .ensures)
@@ -79,23 +46,23 @@ walk-sizes-spec =
     (tie.spec
     Inv-loop
     μ-loop
-    zero-pad-to-byte-requires
+    (λ c κs. search needs)
     loop-holds
-    sub-read-pair
-    read-pair-requires
-    cast-total
+    (λ c. search needs)
+    (λ c κs. search needs)
+    (λ c. search needs)
     add-total
-    cast-total-2
+    (λ c. search needs)
     add-total-2
-    begin-requires
+    (λ c κs. search needs)
     add-k
     loop-less
     loop-again
-    read-size-requires
-    cast-total-3
+    (λ c κs. search needs)
+    (λ c. search needs)
     add-total-3
-    add-k-2
-    loop-less-2
+    (λ c. search needs)
+    (λ c. search needs)
     loop-again-2
-    zero-pad-to-byte-requires-2
+    (λ c κs. search needs)
     returns)
