@@ -17,9 +17,9 @@ use Rattle.bits.specs.declared.Choices.{Choices}
 use Rattle.bits.specs.Bits.{bitsAt, bitCount, there}
 use Rattle.bits.specs.Refusals.{pick, start, clear}
 use Rattle.bits.specs.Half.{exponent}
-use Rattle.bits.specs.Steps.{Steps, gives, refuses, takes, stopped, refusedAt, run, piece}
+use Rattle.bits.specs.Steps.{Steps, gives, refuses, takes, refusedAt, cut, cutAt, run, piece}
 use Rattle.bits.specs.Codec.{Codec, u, bool, u32, cases, skip, steps, field, chosen, choice}
-use Rattle.bits.proofs.Bits.{and-right, there-parts}
+use Rattle.bits.proofs.Bits.{and-left, and-right, there-parts}
 use Rattle.bits.proofs.Windows.{low-of, part-of}
 use Rattle.bits.proofs.Steps.{run-take, run-cut, run-refuses, field-run}
 
@@ -35,7 +35,7 @@ module _ (s : List ℕ) (on : Bool) (k : Codec) (d : ℕ) (c : Cursor) (i : Bool
     pub first-taken : not (x .there) ≡ false → field s on k d c ≡ run (f (x .value)) s (c .at) (x .at)
     first-taken t = field-run s on k d c i e busy ∙ ap (λ (r : Steps). run r s (c .at) (c .at)) st ∙ run-take s (c .at) n (c .at) f x ex t
 
-    pub first-cut : not (x .there) ≡ true → refusedAt 4 (c .at) ≡ field s on k d c
+    pub first-cut : not (x .there) ≡ true → cutAt s (c .at) (c .at + n) ≡ field s on k d c
     first-cut t = sym (field-run s on k d c i e busy ∙ ap (λ (r : Steps). run r s (c .at) (c .at)) st ∙ run-cut s (c .at) n (c .at) f x ex t)
 
 -- a U32's selector and n bits after it are there: one test on the width and one on the end
@@ -53,24 +53,24 @@ pub u32-parts : (s : List ℕ) (p n : ℕ) (r : Bool) → r ≡ (there s p 2 && 
 u32-parts s p n r er t = there-parts s (p + 2) n (and-right (there s p 2) (there s (p + 2) n) (sym er ∙ not-false r t))
 
 -- a U32: its selector, then the choice that it names
-module _ (s : List ℕ) (p : ℕ) (ds : Choices) (k : ℕ) (ek : k ≡ bitsAt s p 2) (ch : Choice) (ech : ch ≡ chosen ds k) (r : Bool) (er : r ≡ (there s p 2 && there s (p + 2) (ch .bits))) where
-  u32-by : (a b : Bool) → there s p 2 ≡ a → there s (p + 2) (ch .bits) ≡ b → run (choice ds gives) s p p
-      ≡ pick (a && b) (record { value = (ch .base + bitsAt s (p + 2) (ch .bits)) % 2 ^ 32; next = start (p + 2 + ch .bits) }) (refusedAt 4 p)
+module _ (s : List ℕ) (p : ℕ) (ds : Choices) where
+  -- the selector is cut
+  pub u32-unselected : there s p 2 ≡ false → cutAt s p (p + 2) ≡ run (choice ds gives) s p p
   unfolding run
-  u32-by true true ha hb = rw (ha, ← ek, ← ech, hb) refl
-  u32-by true false ha hb = rw (ha, ← ek, ← ech, hb) refl
-  u32-by false b ha hb = rw ha refl
+  u32-unselected h = rw h
 
-  u32-run : run (choice ds gives) s p p
-      ≡ pick r (record { value = (ch .base + bitsAt s (p + 2) (ch .bits)) % 2 ^ 32; next = start (p + 2 + ch .bits) }) (refusedAt 4 p)
-  u32-run = u32-by (there s p 2) (there s (p + 2) (ch .bits)) refl refl ∙ rw (← er) refl
+  module _ (k : ℕ) (ek : k ≡ bitsAt s p 2) (ch : Choice) (ech : ch ≡ chosen ds k) where
+    -- the choice is cut
+    pub u32-cut : there s p 2 ≡ true → there s (p + 2) (ch .bits) ≡ false → cutAt s p (p + 2 + ch .bits) ≡ run (choice ds gives) s p p
+    unfolding run
+    u32-cut a b = rw (a, ← ek, ← ech, b)
 
-  pub u32-cut : not r ≡ true → refusedAt 4 p ≡ run (choice ds gives) s p p
-  u32-cut t = sym (u32-run ∙ rw (not-true r t) refl)
-
-  pub u32-read : (v q : ℕ) (b : Cursor) → not r ≡ false → v ≡ (ch .base + bitsAt s (p + 2) (ch .bits)) % 2 ^ 32 → q ≡ p + 2 + ch .bits → b ≡ start q
-      → _≡_ {A = Field} (record { value = v; next = b }) (run (choice ds gives) s p p)
-  u32-read v q b t ev eq eb = rw (ev, eb, eq) (sym (u32-run ∙ rw (not-false r t) refl))
+    pub u32-read : (r : Bool) → r ≡ (there s p 2 && there s (p + 2) (ch .bits)) → r ≡ true → (v q : ℕ) (b : Cursor) → v ≡ (ch .base + bitsAt s (p + 2) (ch .bits)) % 2 ^ 32 → q ≡ p + 2 + ch .bits → b ≡ start q
+        → _≡_ {A = Field} (record { value = v; next = b }) (run (choice ds gives) s p p)
+    unfolding run
+    u32-read r er t v q b ev eq eb =
+        let both : (there s p 2 && there s (p + 2) (ch .bits)) ≡ true = sym er ∙ t in
+        rw (ev, eb, eq, and-left (there s p 2) (there s (p + 2) (ch .bits)) both, ← ek, ← ech, and-right (there s p 2) (there s (p + 2) (ch .bits)) both)
 
 -- a U32 out of bits that are known, at least as many as it takes
 pub u32-seen : (s : List ℕ) (q m w : ℕ) (ds : Choices) (ch : Choice) (v : ℕ) → w ≡ bitsAt s q m → q + m ≤ bitCount s → ch ≡ chosen ds (w % 2 ^ 2) → ch .bits ≤ 32 → 2 + ch .bits ≤ m
@@ -80,13 +80,13 @@ u32-seen s q m w ds ch v ew room ech narrow enough ev =
     let selector : w % 2 ^ 2 ≡ bitsAt s q 2 = rw ew (low-of s q m 2 (omega (arith, enough))) in
     let payload : w / 2 ^ 2 % 2 ^ ch .bits ≡ bitsAt s (q + 2) (ch .bits) = rw ew (part-of s q m 2 (ch .bits) enough) in
     let both : (there s q 2 && there s (q + 2) (ch .bits)) ≡ true = sym (u32-narrow s q (ch .bits) narrow) ∙ le-leb (q + (ch .bits + 2)) (bitCount s) (omega (arith, room, enough)) in
-    u32-read s q ds (w % 2 ^ 2) selector ch ech true (sym both) v (q + 2 + ch .bits) (start (q + 2 + ch .bits)) refl (ev ∙ ap (λ (x : ℕ). (ch .base + x) % 2 ^ 32) payload) refl refl
+    u32-read s q ds (w % 2 ^ 2) selector ch ech true (sym both) refl v (q + 2 + ch .bits) (start (q + 2 + ch .bits)) (ev ∙ ap (λ (x : ℕ). (ch .base + x) % 2 ^ 32) payload) refl refl
 
 -- a U32 that goes on is the U32 itself, and then what follows unless it was refused
 choice-by : (ds : Choices) (f : ℕ → Steps) (s : List ℕ) (p q : ℕ) (b1 b2 : Bool) → there s q 2 ≡ b1 → there s (q + 2) (chosen ds (bitsAt s q 2) .bits) ≡ b2
     → run (choice ds f) s p q
     ≡ pick (clear (run (choice ds gives) s p q .next)) (run (f (run (choice ds gives) s p q .value)) s p (run (choice ds gives) s p q .next .at)) (run (choice ds gives) s p q)
-unfolding run
+unfolding run cut
 choice-by ds f s p q true true h1 h2 = rw (h1, h2)
 choice-by ds f s p q true false h1 h2 = rw (h1, h2)
 choice-by ds f s p q false true h1 h2 = rw h1
@@ -103,7 +103,7 @@ bool-is s on d c = refl
 choice-clear-by : (ds : Choices) (s : List ℕ) (p q : ℕ) (b1 b2 : Bool) → there s q 2 ≡ b1 → there s (q + 2) (chosen ds (bitsAt s q 2) .bits) ≡ b2
     → run (choice ds gives) s p q .next .fault .number ≡ 0
     → run (choice ds gives) s p q ≡ run (gives (run (choice ds gives) s p q .value)) s p (run (choice ds gives) s p q .next .at)
-unfolding run
+unfolding run cut
 choice-clear-by ds s p q true true h1 h2 h = rw (h1, h2)
 choice-clear-by ds s p q true false h1 h2 h = absurd (eqb-false 4 0 refl (rw (h1, h2) at h))
 choice-clear-by ds s p q false true h1 h2 h = absurd (eqb-false 4 0 refl (rw h1 at h))
@@ -148,13 +148,13 @@ module _ (s : List ℕ) (p q : ℕ) (a b : Steps) (t : Bool) where
 
 -- a skip, whose end is within the bits or not
 module _ (s : List ℕ) (on : Bool) (n : ℕ) (c : Cursor) (i : Bool) (e : i ≡ not (on && clear c)) where
-  skip-run : i ≡ false → field s on (skip n) 0 c ≡ pick (leb (c .at + n) (bitCount s)) (record { value = 0; next = start (c .at + n) }) (refusedAt 4 (c .at))
+  skip-run : i ≡ false → field s on (skip n) 0 c ≡ pick (leb (c .at + n) (bitCount s)) (record { value = 0; next = start (c .at + n) }) (cutAt s (c .at) (c .at + n))
   unfolding run
   skip-run busy = field-run s on (skip n) 0 c i e busy
 
-  pub skip-cut : i ≡ false → (r : Cursor) → r ≡ stopped 4 (c .at) → bitCount s < c .at + n → r ≡ field s on (skip n) 0 c .next
+  pub skip-cut : i ≡ false → (r : Cursor) → r ≡ record { at = c .at; fault = cut s (c .at) (c .at + n) } → bitCount s < c .at + n → r ≡ field s on (skip n) 0 c .next
   skip-cut busy r er h =
-      let is : field s on (skip n) 0 c ≡ refusedAt 4 (c .at) = skip-run busy ∙ rw (lt-leb (c .at + n) (bitCount s) h) in
+      let is : field s on (skip n) 0 c ≡ cutAt s (c .at) (c .at + n) = skip-run busy ∙ rw (lt-leb (c .at + n) (bitCount s) h) in
       er ∙ sym (ap (λ (f : Field). f .next) is)
 
   pub skip-goes : i ≡ false → (r : Cursor) → r ≡ start (c .at + n) → c .at + n ≤ bitCount s → r ≡ field s on (skip n) 0 c .next

@@ -2,6 +2,7 @@ pub mod Bits
 pub mod Windows
 pub mod Steps
 pub mod Codecs
+pub mod Views
 pub mod Tables
 pub mod Rows
 pub mod Reading

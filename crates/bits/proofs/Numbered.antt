@@ -10,7 +10,7 @@ use Rattle.bits.specs.declared.Field.{Field}
 use Rattle.bits.specs.Refusals.{pick, refusal, start, clear}
 use Rattle.bits.specs.Bits.{bitsAt, bitCount, there}
 use Rattle.bits.specs.Half.{exponent}
-use Rattle.bits.specs.Steps.{Steps, gives, refuses, takes, passes, refusedAt, run}
+use Rattle.bits.specs.Steps.{Steps, gives, refuses, takes, passes, cut, cutAt, run}
 use Rattle.bits.specs.Codec.{Codec, u, bool, u32, cases, u64, f16, padding, skip, steps, chosen, more, field}
 use Rattle.bits.specs.Table.{Table, ends, row, fails, failed, read, bind, within, times}
 use Rattle.bits.specs.Extensions.{lengths, extensions}
@@ -48,13 +48,13 @@ low padding p = λ x. of-both Low (eqb x 0) (gives 0) (refuses 12) tt (omega ari
 low (skip n) p = tt
 
 run-low : (t : Steps) → Low t → (s : List ℕ) (p q : ℕ) → run t s p q .next .fault .number ≤ 14
-unfolding run
+unfolding run cut
 run-low (gives v) h s p q = omega arith
 run-low (refuses n) h s p q = h
 run-low (takes n f) h s p q =
-    of-both (λ (r : Field). r .next .fault .number ≤ 14) (there s q n) (run (f (bitsAt s q n)) s p (q + n)) (refusedAt 4 p) (run-low (f (bitsAt s q n)) (h (bitsAt s q n)) s p (q + n)) (omega arith)
+    of-both (λ (r : Field). r .next .fault .number ≤ 14) (there s q n) (run (f (bitsAt s q n)) s p (q + n)) (cutAt s p (q + n)) (run-low (f (bitsAt s q n)) (h (bitsAt s q n)) s p (q + n)) (omega arith)
 run-low (passes n t) h s p q =
-    of-both (λ (r : Field). r .next .fault .number ≤ 14) (leb (q + n) (bitCount s)) (run t s p (q + n)) (refusedAt 4 p) (run-low t h s p (q + n)) (omega arith)
+    of-both (λ (r : Field). r .next .fault .number ≤ 14) (leb (q + n) (bitCount s)) (run t s p (q + n)) (cutAt s p (q + n)) (run-low t h s p (q + n)) (omega arith)
 
 pub field-low : (s : List ℕ) (on : Bool) (k : Codec) (d : ℕ) (c : Cursor) → c .fault .number ≤ 14 → field s on k d c .next .fault .number ≤ 14
 unfolding field
@@ -81,13 +81,13 @@ read-low (fails bad number back rest) n s c h = read-low rest (n .1) s (failed b
 
 -- and a place that is no further than the end, for every table
 run-near : (t : Steps) (s : List ℕ) (p q : ℕ) → p ≤ bitCount s → run t s p q .next .fault .place ≤ bitCount s
-unfolding run
+unfolding run cut
 run-near (gives v) s p q h = omega arith
 run-near (refuses n) s p q h = h
 run-near (takes n f) s p q h =
-    of-both (λ (r : Field). r .next .fault .place ≤ bitCount s) (there s q n) (run (f (bitsAt s q n)) s p (q + n)) (refusedAt 4 p) (run-near (f (bitsAt s q n)) s p (q + n) h) h
+    of-both (λ (r : Field). r .next .fault .place ≤ bitCount s) (there s q n) (run (f (bitsAt s q n)) s p (q + n)) (cutAt s p (q + n)) (run-near (f (bitsAt s q n)) s p (q + n) h) h
 run-near (passes n t) s p q h =
-    of-both (λ (r : Field). r .next .fault .place ≤ bitCount s) (leb (q + n) (bitCount s)) (run t s p (q + n)) (refusedAt 4 p) (run-near t s p (q + n) h) h
+    of-both (λ (r : Field). r .next .fault .place ≤ bitCount s) (leb (q + n) (bitCount s)) (run t s p (q + n)) (cutAt s p (q + n)) (run-near t s p (q + n) h) h
 
 pub field-near : (s : List ℕ) (on : Bool) (k : Codec) (d : ℕ) (c : Cursor) → c .at ≤ bitCount s → c .fault .place ≤ bitCount s → field s on k d c .next .fault .place ≤ bitCount s
 unfolding field

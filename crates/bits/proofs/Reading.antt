@@ -14,7 +14,7 @@ use Rattle.bits.specs.declared.Field.{Field}
 use Rattle.bits.specs.Refusals.{pick, refusal, start, clear}
 use Rattle.bits.specs.Bits.{bitAt, bitsAt, bitCount, there}
 use Rattle.bits.specs.Half.{exponent}
-use Rattle.bits.specs.Steps.{Steps, gives, refuses, takes, passes, refusedAt, run}
+use Rattle.bits.specs.Steps.{Steps, gives, refuses, takes, passes, cut, cutAt, run}
 use Rattle.bits.specs.Codec.{Codec, u, bool, u32, cases, u64, f16, padding, skip, steps, chosen, more, field}
 use Rattle.bits.specs.Table.{Table, ends, row, fails, Out, failed, read}
 use Rattle.bits.proofs.Bits.{bits-lt, there-parts}
@@ -50,11 +50,11 @@ unfolding run
 run-within (gives v) s p q hp hq = hq
 run-within (refuses n) s p q hp hq = hp
 run-within (takes n f) s p q hp hq =
-    picked (λ (r : Field). r .next .at ≤ bitCount s) (there s q n) (run (f (bitsAt s q n)) s p (q + n)) (refusedAt 4 p)
+    picked (λ (r : Field). r .next .at ≤ bitCount s) (there s q n) (run (f (bitsAt s q n)) s p (q + n)) (cutAt s p (q + n))
     (λ h. run-within (f (bitsAt s q n)) s p (q + n) hp (there-parts s q n h .1))
     (λ h. hp)
 run-within (passes n t) s p q hp hq =
-    picked (λ (r : Field). r .next .at ≤ bitCount s) (leb (q + n) (bitCount s)) (run t s p (q + n)) (refusedAt 4 p)
+    picked (λ (r : Field). r .next .at ≤ bitCount s) (leb (q + n) (bitCount s)) (run t s p (q + n)) (cutAt s p (q + n))
     (λ h. run-within t s p (q + n) hp (leb-true (q + n) (bitCount s) h))
     (λ h. hp)
 
@@ -143,16 +143,16 @@ fair (skip n) p = tt
 
 -- a field that is not refused does not go back
 forward : (t : Steps) → Fair t → (s : List ℕ) (p q : ℕ) (r : Field) → run t s p q ≡ r → clear (r .next) ≡ true → q ≤ r .next .at
-unfolding run
+unfolding run cut
 forward (gives v) f s p q r e h = rw (← e) (le-refl q)
 forward (refuses n) f s p q r e h = absurd (f (eqb-true n 0 (rw (← e) at h)))
 forward (takes n g) f s p q r e h =
-    picked (λ (x : Field). x ≡ r → q ≤ r .next .at) (there s q n) (run (g (bitsAt s q n)) s p (q + n)) (refusedAt 4 p)
+    picked (λ (x : Field). x ≡ r → q ≤ r .next .at) (there s q n) (run (g (bitsAt s q n)) s p (q + n)) (cutAt s p (q + n))
     (λ t y. let l : q + n ≤ r .next .at = forward (g (bitsAt s q n)) (f (bitsAt s q n)) s p (q + n) r y h in omega arith)
     (λ t y. absurd (false≢true (rw (← y) at h)))
     e
 forward (passes n t) f s p q r e h =
-    picked (λ (x : Field). x ≡ r → q ≤ r .next .at) (leb (q + n) (bitCount s)) (run t s p (q + n)) (refusedAt 4 p)
+    picked (λ (x : Field). x ≡ r → q ≤ r .next .at) (leb (q + n) (bitCount s)) (run t s p (q + n)) (cutAt s p (q + n))
     (λ i y. let l : q + n ≤ r .next .at = forward t f s p (q + n) r y h in omega arith)
     (λ i y. absurd (false≢true (rw (← y) at h)))
     e
@@ -169,14 +169,14 @@ module _ (s s' : List ℕ) (p p' : ℕ) (r : Field) (ok : clear (r .next) ≡ tr
   run-same : (t : Steps) → Fair t → (q q' : ℕ) → run t s p q ≡ r
       → ((i : ℕ) → q + i < r .next .at → bitAt s (q + i) ≡ bitAt s' (q' + i)) → q' + (r .next .at - q) ≤ bitCount s'
       → run t s' p' q' ≡ record { value = r .value; next = start (q' + (r .next .at - q)) }
-  unfolding run
+  unfolding run cut
   run-same (gives v) f q q' e h l =
       let here : q' ≡ q' + (r .next .at - q) = rw (← e) (omega arith) in
       let val : v ≡ r .value = rw (← e) in
       rw (← here, ← val)
   run-same (refuses n) f q q' e h l = absurd (f (eqb-true n 0 (rw (← e) at ok)))
   run-same (takes n g) f q q' e h l =
-      picked (λ (x : Field). x ≡ r → run (takes n g) s' p' q' ≡ record { value = r .value; next = start (q' + (r .next .at - q)) }) (there s q n) (run (g (bitsAt s q n)) s p (q + n)) (refusedAt 4 p)
+      picked (λ (x : Field). x ≡ r → run (takes n g) s' p' q' ≡ record { value = r .value; next = start (q' + (r .next .at - q)) }) (there s q n) (run (g (bitsAt s q n)) s p (q + n)) (cutAt s p (q + n))
       (λ t y.
       let past : q + n ≤ r .next .at = forward (g (bitsAt s q n)) (f (bitsAt s q n)) s p (q + n) r y ok in
       let same : bitsAt s q n ≡ bitsAt s' q' n = bits-same s s' q q' n (λ i k. h i (omega arith)) in
@@ -187,7 +187,7 @@ module _ (s s' : List ℕ) (p p' : ℕ) (r : Field) (ok : clear (r .next) ≡ tr
       (λ t y. absurd (false≢true (rw (← y) at ok)))
       e
   run-same (passes n t) f q q' e h l =
-      picked (λ (x : Field). x ≡ r → run (passes n t) s' p' q' ≡ record { value = r .value; next = start (q' + (r .next .at - q)) }) (leb (q + n) (bitCount s)) (run t s p (q + n)) (refusedAt 4 p)
+      picked (λ (x : Field). x ≡ r → run (passes n t) s' p' q' ≡ record { value = r .value; next = start (q' + (r .next .at - q)) }) (leb (q + n) (bitCount s)) (run t s p (q + n)) (cutAt s p (q + n))
       (λ i y.
       let past : q + n ≤ r .next .at = forward t f s p (q + n) r y ok in
       let room : leb (q' + n) (bitCount s') ≡ true = le-leb (q' + n) (bitCount s') (omega arith) in

@@ -9,7 +9,7 @@ use Rattle.bits.specs.declared.Cursor.{Cursor}
 use Rattle.bits.specs.declared.Field.{Field}
 use Rattle.bits.specs.Bits.{bitsAt, there}
 use Rattle.bits.specs.Refusals.{start, clear}
-use Rattle.bits.specs.Steps.{Steps, gives, refuses, takes, refusedAt, run, piece}
+use Rattle.bits.specs.Steps.{Steps, gives, refuses, takes, refusedAt, cutAt, run, piece}
 use Rattle.bits.specs.Codec.{Codec, steps, field}
 use Rattle.bits.proofs.Bits.{bits-lt}
 
@@ -39,7 +39,7 @@ module _ (s : List ℕ) (q n : ℕ) where
     took true h t = rw h
     took false h t = absurd (true≢false (rw h at t))
 
-    missed : (b : Bool) → there s q n ≡ b → not (piece s q n .there) ≡ true → run (takes n f) s p q ≡ refusedAt 4 p
+    missed : (b : Bool) → there s q n ≡ b → not (piece s q n .there) ≡ true → run (takes n f) s p q ≡ cutAt s p (q + n)
     unfolding run piece
     missed true h t = absurd (false≢true (rw h at t))
     missed false h t = rw h
@@ -49,7 +49,7 @@ module _ (s : List ℕ) (q n : ℕ) where
     run-take x e t = took (there s q n) refl (rw e at t) ∙ rw (← e)
 
     -- a piece that is cut: 4 where the field began
-    pub run-cut : (x : Piece) → x ≡ piece s q n → not (x .there) ≡ true → run (takes n f) s p q ≡ refusedAt 4 p
+    pub run-cut : (x : Piece) → x ≡ piece s q n → not (x .there) ≡ true → run (takes n f) s p q ≡ cutAt s p (q + n)
     run-cut x e t = missed (there s q n) refl (rw e at t)
 
 pub run-gives : (s : List ℕ) (p q v : ℕ) → run (gives v) s p q ≡ record { value = v; next = start q }

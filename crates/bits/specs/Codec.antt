@@ -37,6 +37,10 @@ val c = record { base = c; bits = 0 }
 abbrev pub plus : ℕ → ℕ → Choice
 plus b n = record { base = b; bits = n }
 
+-- the four choices of a U32
+abbrev pub oneOf : Choice → Choice → Choice → Choice → Choices
+oneOf a b c d = record { d0 = a; d1 = b; d2 = c; d3 = d }
+
 -- the choice that the two-bit selector names
 abbrev pub chosen : Choices → ℕ → Choice
 chosen d k = pick (eqb k 0) (d .d0) (pick (eqb k 1) (d .d1) (pick (eqb k 2) (d .d2) (d .d3)))

@@ -1,5 +1,6 @@
 pub mod Refusals
 pub mod Bits
+pub mod View
 pub mod Steps
 pub mod Half
 pub mod Codec

@@ -4,6 +4,7 @@ use mathlib.Core.List.{List}
 use mathlib.Core.Bool.{true, false}
 use lib.Dec.{leb}
 use Rattle.bits.specs.declared.Cursor.{Cursor}
+use Rattle.bits.specs.declared.Refusal.{Refusal}
 use Rattle.bits.specs.declared.Field.{Field}
 use Rattle.bits.specs.declared.pieces.Piece.{Piece}
 use Rattle.bits.specs.Refusals.{pick, refusal, start}
@@ -23,12 +24,19 @@ stopped number p = record { at = p; fault = refusal number p }
 abbrev pub refusedAt : ℕ → ℕ → Field
 refusedAt number p = record { value = 0; next = stopped number p }
 
--- the field that begins at p, having come to q; 4 where a piece needs bits past the end
+-- 4 of a field that begins at p: its piece that ends at end needs bits past the end of s. Every refusal 4 is this one.
+unfoldable pub cut : List ℕ → ℕ → ℕ → Refusal
+cut s p end = refusal 4 p
+
+abbrev pub cutAt : List ℕ → ℕ → ℕ → Field
+cutAt s p end = record { value = 0; next = record { at = p; fault = cut s p end } }
+
+-- the field that begins at p, having come to q
 unfoldable pub run : Steps → List ℕ → ℕ → ℕ → Field
 run (gives v) s p q = record { value = v; next = start q }
 run (refuses number) s p q = refusedAt number p
-run (takes n rest) s p q = pick (there s q n) (run (rest (bitsAt s q n)) s p (q + n)) (refusedAt 4 p)
-run (passes n rest) s p q = pick (leb (q + n) (bitCount s)) (run rest s p (q + n)) (refusedAt 4 p)
+run (takes n rest) s p q = pick (there s q n) (run (rest (bitsAt s q n)) s p (q + n)) (cutAt s p (q + n))
+run (passes n rest) s p q = pick (leb (q + n) (bitCount s)) (run rest s p (q + n)) (cutAt s p (q + n))
 
 -- one piece of a field, if it is there
 unfoldable pub piece : List ℕ → ℕ → ℕ → Piece

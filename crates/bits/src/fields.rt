@@ -3,7 +3,7 @@ use crate::Cursor;
 use crate::Field;
 use crate::begin;
 use crate::kept;
-use crate::pieces::refused_at;
+use crate::pieces::cut_at;
 use crate::pieces::stop;
 use crate::pieces::take;
 ghost use mathlib.Core.Path.{_≡_};
@@ -32,7 +32,7 @@ pub fn read_bits_if(s: &[u8], c: Cursor, on: bool, n: u32, default: u32) -> Fiel
     let at = c.at;
     let x = take(s, at, n);
     if !x.there {
-        return refused_at(4, at);
+        return cut_at(s, at, at, n);
     }
     Field {
         value: x.value,
@@ -70,7 +70,8 @@ pub fn zero_pad_to_byte(s: &[u8], c: Cursor) -> Cursor
     let n = ((8 - at % 8) % 8) as u32;
     let x = take(s, at, n);
     if !x.there {
-        return stop(4, at);
+        let f = cut_at(s, at, at, n);
+        return f.next;
     }
     if x.value == 0 {
         begin(x.at)

@@ -3,6 +3,7 @@
 // end, a width over 32 and a long slice have an answer too.
 mod fields;
 mod pieces;
+mod view;
 mod window;
 
 pub use fields::idle;
@@ -13,17 +14,25 @@ pub use fields::read_bool_if;
 pub use fields::zero_pad_to_byte;
 pub use pieces::Piece;
 pub use pieces::bit_count;
+pub use pieces::cut;
+pub use pieces::cut_at;
 pub use pieces::reaches;
 pub use pieces::refused_at;
 pub use pieces::stop;
+pub use pieces::stop_cut;
 pub use pieces::take;
+pub use view::Seen;
+pub use view::View;
+pub use view::see;
+pub use view::see_choice;
 pub use window::Ahead;
 pub use window::look_ahead;
 pub use window::low_bits;
 ghost use mathlib.Core.Path.{_≡_};
 ghost use mathlib.Core.Bool.{_&&_, _||_};
+ghost use Prim.Native.Nat.{_-_};
 ghost use Rattle.bits.specs.Refusals.{refusal, none, start};
-ghost use Rattle.bits.specs.Codec.{val};
+ghost use Rattle.bits.specs.Codec.{val, plus, oneOf};
 ghost use Rattle.bits.specs.Table.{failed};
 
 // Why something was refused, and at which bit. Number 0: nothing was.
@@ -112,6 +121,26 @@ pub fn constant(c: u32) -> Choice
     Choice { base: c, bits: 0 }
 }
 
+// base + u(bits) as a choice of a U32.
+pub fn plus(base: u32, bits: u32) -> Choice
+    ensures { λ r. ⌜ r ≡ plus base bits ⌝ }
+{
+    Choice { base, bits }
+}
+
+pub fn one_of(d0: Choice, d1: Choice, d2: Choice, d3: Choice) -> Choices
+    ensures { λ r. ⌜ r ≡ oneOf d0 d1 d2 d3 ⌝ }
+{
+    Choices { d0, d1, d2, d3 }
+}
+
+// A place so many bits back, not before the start.
+fn so_far_back(at: u64, back: u64) -> u64
+    ensures { λ r. ⌜ r ≡ at - back ⌝ }
+{
+    if back <= at { at - back } else { 0 }
+}
+
 // A refusal on what was read, so many bits back, unless there was one before.
 pub fn refuse_if(c: Cursor, bad: bool, number: u32, back: u64) -> Cursor
     ensures { λ r. ⌜ r ≡ failed bad number back c ⌝ }
@@ -120,11 +149,8 @@ pub fn refuse_if(c: Cursor, bad: bool, number: u32, back: u64) -> Cursor
         return c;
     }
     let at = c.at;
-    let place = if back <= at { at - back } else { 0 };
-    Cursor {
-        at,
-        fault: Refusal { number, place },
-    }
+    let fault = refused(number, so_far_back(at, back));
+    Cursor { at, fault }
 }
 
 pub fn both(a: bool, b: bool) -> bool

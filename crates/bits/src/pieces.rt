@@ -2,13 +2,16 @@
 use crate::Cursor;
 use crate::Field;
 use crate::Refusal;
+use crate::Sum;
+use crate::refused;
 use crate::window::look_ahead;
 use crate::window::low_bits;
 ghost use mathlib.Core.Path.{_≡_};
 ghost use Prim.Native.Nat.{_+_};
 ghost use lib.Dec.{leb};
 ghost use Rattle.bits.specs.Bits.{bitCount, there, ahead};
-ghost use Rattle.bits.specs.Steps.{stopped, refusedAt, piece};
+ghost use Rattle.bits.specs.Steps.{stopped, refusedAt, cut, cutAt, piece};
+ghost use Rattle.bits.specs.Extensions.{whole};
 
 // So many bits of a field: whether they are there, their value, and the place after them.
 pub struct Piece {
@@ -74,10 +77,8 @@ pub fn take(s: &[u8], p: u64, n: u32) -> Piece
 pub fn stop(number: u32, p: u64) -> Cursor
     ensures { λ r. ⌜ r ≡ stopped number p ⌝ }
 {
-    Cursor {
-        at: p,
-        fault: Refusal { number, place: p },
-    }
+    let fault = refused(number, p);
+    Cursor { at: p, fault }
 }
 
 pub fn refused_at(number: u32, p: u64) -> Field
@@ -87,4 +88,34 @@ pub fn refused_at(number: u32, p: u64) -> Field
         value: 0,
         next: stop(number, p),
     }
+}
+
+// 4 of a field that begins at p: its piece of n bits from q on is cut. The one place that makes this refusal.
+pub fn cut(s: &[u8], p: u64, q: u64, n: Sum) -> Refusal
+    ensures { λ r. ⌜ r ≡ cut (now (s .entry)) p (q + whole n) ⌝ }
+{
+    refused(4, p)
+}
+
+pub fn stop_cut(s: &[u8], p: u64, q: u64, n: Sum) -> Cursor
+    ensures { λ r. ⌜ r ≡ record { at = p; fault = cut (now (s .entry)) p (q + whole n) } ⌝ }
+{
+    let fault = cut(s, p, q, n);
+    Cursor { at: p, fault }
+}
+
+// The same of a piece that a field knows, as the field's answer.
+pub fn cut_at(s: &[u8], p: u64, q: u64, n: u32) -> Field
+    ensures { λ r. ⌜ r ≡ cutAt (now (s .entry)) p (q + n) ⌝ }
+{
+    let next = stop_cut(
+        s,
+        p,
+        q,
+        Sum {
+            high: 0,
+            low: n as u64,
+        },
+    );
+    Field { value: 0, next }
 }

@@ -96,7 +96,7 @@ pub fn look_ahead(s: &[u8], p: u64) -> Ahead
     }
 }
 
-fn at_most_32(n: u32) -> u32
+pub fn at_most_32(n: u32) -> u32
     ensures { λ r. ⌜ r ≡ min n 32 ⌝ }
 {
     if n < 32 { n } else { 32 }

@@ -15,7 +15,7 @@ returns c =
 
 returns-2 : tie.Need-returns-2
 returns-2 c =
-    c .refused-at .ensures
+    c .cut-at .ensures
     ∙ first-cut (c .before .before .before .before .before .before .before .args .s .now) (c .before .before .before .before .before .before .before .args .on) (u (c .before .before .before .before .before .before .before .args .n)) _ _ _ (c .before .before .before .before .before .idle .ensures) _ _ refl (c .before .before .before .before .if1 .left) _ (c .before .before .before .take .ensures) (c .before .if2 .taken)
 
 returns-3 : tie.Need-returns-3

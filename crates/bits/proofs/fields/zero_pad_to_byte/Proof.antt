@@ -15,7 +15,10 @@ returns : tie.Need-returns
 returns c = c .kept .ensures ∙ sym (ap (λ (f : Field). f .next) (field-idle (c .before .before .before .before .args .s .now) true padding 0 _ _ (c .before .before .idle .ensures) (c .before .if1 .taken)))
 
 returns-2 : tie.Need-returns-2
-returns-2 c = c .stop .ensures ∙ ap (λ (f : Field). f .next) (first-cut (c .before .before .before .before .before .before .before .args .s .now) true padding 0 _ _ (c .before .before .before .before .before .idle .ensures) _ _ refl (c .before .before .before .before .if1 .left) _ (c .before .before .before .take .ensures) (c .before .if2 .taken))
+returns-2 c =
+    ap (λ (f : Field). f .next)
+    (c .before .cut-at .ensures
+    ∙ first-cut (c .before .before .before .before .before .before .before .before .args .s .now) true padding 0 _ _ (c .before .before .before .before .before .before .idle .ensures) _ _ refl (c .before .before .before .before .before .if1 .left) _ (c .before .before .before .before .take .ensures) (c .before .before .if2 .taken))
 
 returns-3 : tie.Need-returns-3
 returns-3 c =
@@ -28,7 +31,7 @@ returns-3 c =
 
 returns-4 : tie.Need-returns-4
 returns-4 c =
-    c .stop2 .ensures
+    c .stop .ensures
     ∙ ap (λ (f : Field). f .next) (sym (
     first-taken (c .before .before .before .before .before .before .before .before .before .args .s .now) true padding 0 _ _ (c .before .before .before .before .before .before .before .idle .ensures) _ _ refl (c .before .before .before .before .before .before .if1 .left) _ (c .before .before .before .before .before .take .ensures) (c .before .before .before .if2 .left)
     ∙ run-no (c .before .before .before .before .before .before .before .before .before .args .s .now) _ _ (gives 0) (refuses 12) _ (ne-eqb _ 0 (c .before .if3 .left))
