@@ -54,22 +54,22 @@ u32-parts s p n r er t = there-parts s (p + 2) n (and-right (there s p 2) (there
 
 -- a U32: its selector, then the choice that it names
 module _ (s : List ℕ) (p : ℕ) (ds : Choices) where
-  -- the selector is cut
-  pub u32-unselected : there s p 2 ≡ false → cutAt s p (p + 2) ≡ run (choice ds gives) s p p
-  unfolding run
-  u32-unselected h = rw h
-
-  module _ (k : ℕ) (ek : k ≡ bitsAt s p 2) (ch : Choice) (ech : ch ≡ chosen ds k) where
-    -- the choice is cut
-    pub u32-cut : there s p 2 ≡ true → there s (p + 2) (ch .bits) ≡ false → cutAt s p (p + 2 + ch .bits) ≡ run (choice ds gives) s p p
+  module _ (k : ℕ) (ek : k ≡ bitsAt s p 2) (ch : Choice) (ech : ch ≡ chosen ds k) (r : Bool) (er : r ≡ (there s p 2 && there s (p + 2) (ch .bits))) where
+    cut-by : (a b : Bool) → there s p 2 ≡ a → there s (p + 2) (ch .bits) ≡ b → (a && b) ≡ false → pick a (cutAt s p (p + 2 + ch .bits)) (cutAt s p (p + 2)) ≡ run (choice ds gives) s p p
     unfolding run
-    u32-cut a b = rw (a, ← ek, ← ech, b)
+    cut-by true false ha hb f = rw (ha, ← ek, ← ech, hb)
+    cut-by true true ha hb f = absurd (true≢false f)
+    cut-by false b ha hb f = rw ha
 
-    pub u32-read : (r : Bool) → r ≡ (there s p 2 && there s (p + 2) (ch .bits)) → r ≡ true → (v q : ℕ) (b : Cursor) → v ≡ (ch .base + bitsAt s (p + 2) (ch .bits)) % 2 ^ 32 → q ≡ p + 2 + ch .bits → b ≡ start q
+    -- the choice is cut, or the selector
+    pub u32-cut : not r ≡ true → pick (there s p 2) (cutAt s p (p + 2 + ch .bits)) (cutAt s p (p + 2)) ≡ run (choice ds gives) s p p
+    u32-cut t = cut-by (there s p 2) (there s (p + 2) (ch .bits)) refl refl (sym er ∙ not-true r t)
+
+    pub u32-read : (v q : ℕ) (b : Cursor) → not r ≡ false → v ≡ (ch .base + bitsAt s (p + 2) (ch .bits)) % 2 ^ 32 → q ≡ p + 2 + ch .bits → b ≡ start q
         → _≡_ {A = Field} (record { value = v; next = b }) (run (choice ds gives) s p p)
     unfolding run
-    u32-read r er t v q b ev eq eb =
-        let both : (there s p 2 && there s (p + 2) (ch .bits)) ≡ true = sym er ∙ t in
+    u32-read v q b t ev eq eb =
+        let both : (there s p 2 && there s (p + 2) (ch .bits)) ≡ true = sym er ∙ not-false r t in
         rw (ev, eb, eq, and-left (there s p 2) (there s (p + 2) (ch .bits)) both, ← ek, ← ech, and-right (there s p 2) (there s (p + 2) (ch .bits)) both)
 
 -- a U32 out of bits that are known, at least as many as it takes
@@ -80,7 +80,7 @@ u32-seen s q m w ds ch v ew room ech narrow enough ev =
     let selector : w % 2 ^ 2 ≡ bitsAt s q 2 = rw ew (low-of s q m 2 (omega (arith, enough))) in
     let payload : w / 2 ^ 2 % 2 ^ ch .bits ≡ bitsAt s (q + 2) (ch .bits) = rw ew (part-of s q m 2 (ch .bits) enough) in
     let both : (there s q 2 && there s (q + 2) (ch .bits)) ≡ true = sym (u32-narrow s q (ch .bits) narrow) ∙ le-leb (q + (ch .bits + 2)) (bitCount s) (omega (arith, room, enough)) in
-    u32-read s q ds (w % 2 ^ 2) selector ch ech true (sym both) refl v (q + 2 + ch .bits) (start (q + 2 + ch .bits)) (ev ∙ ap (λ (x : ℕ). (ch .base + x) % 2 ^ 32) payload) refl refl
+    u32-read s q ds (w % 2 ^ 2) selector ch ech true (sym both) v (q + 2 + ch .bits) (start (q + 2 + ch .bits)) refl (ev ∙ ap (λ (x : ℕ). (ch .base + x) % 2 ^ 32) payload) refl refl
 
 -- a U32 that goes on is the U32 itself, and then what follows unless it was refused
 choice-by : (ds : Choices) (f : ℕ → Steps) (s : List ℕ) (p q : ℕ) (b1 b2 : Bool) → there s q 2 ≡ b1 → there s (q + 2) (chosen ds (bitsAt s q 2) .bits) ≡ b2

@@ -13,7 +13,7 @@ use Rattle.bits.specs.declared.pieces.Piece.{Piece}
 use Rattle.bits.specs.declared.Cursor.{Cursor}
 use Rattle.bits.specs.declared.Wide.{Wide}
 use Rattle.bits.specs.Refusals.{start}
-use Rattle.bits.specs.Steps.{Steps, gives, refuses, takes, refusedAt, run, piece}
+use Rattle.bits.specs.Steps.{Steps, gives, refuses, takes, cutAt, run, piece}
 use Rattle.bits.specs.Codec.{more, long, wideOf}
 use Rattle.bits.proofs.Steps.{run-take, run-cut, piece-lt}
 
@@ -31,7 +31,7 @@ module _ (v x shift w : ℕ) (hv : v < 2 ^ shift) (hx : x < 2 ^ w) (room : w + s
   joined-lt = rw (joined, add-comm v (x * 2 ^ shift), pow-add 2 w shift) (digits-lt hx hv)
 
 module _ (s : List ℕ) (p q v : ℕ) (b : Piece) (eb : b ≡ piece s q 1) where
-  pub more-cut : (k : ℕ) → not (b .there) ≡ true → run (more k v) s p q ≡ refusedAt 4 p
+  pub more-cut : (k : ℕ) → not (b .there) ≡ true → run (more k v) s p q ≡ cutAt s p (q + 1)
   unfolding more
   more-cut zero t = run-cut s q 1 p _ b eb t
   more-cut (suc k) t = run-cut s q 1 p _ b eb t
@@ -58,7 +58,7 @@ module _ (s : List ℕ) (p q v : ℕ) (b : Piece) (eb : b ≡ piece s q 1) where
       here : 52 - 8 * ((60 - (shift + 8)) / 8) ≡ shift
       here = omega arith
 
-      pub more-cut-8 : not (y .there) ≡ true → run (more ((60 - shift) / 8) v) s p q ≡ refusedAt 4 p
+      pub more-cut-8 : not (y .there) ≡ true → run (more ((60 - shift) / 8) v) s p q ≡ cutAt s p (b .at + 8)
       more-cut-8 ty = rw left (more-next ((60 - (shift + 8)) / 8) ∙ run-cut s (b .at) 8 p _ y ey ty)
 
       pub more-goes : not (y .there) ≡ false → v < 2 ^ shift

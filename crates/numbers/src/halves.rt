@@ -2,6 +2,7 @@
 use bits::Cursor;
 use bits::Field;
 use bits::begin;
+use bits::cut_at;
 use bits::idle;
 use bits::kept;
 use bits::refused_at;
@@ -23,7 +24,7 @@ pub fn read_f16_if(s: &[u8], c: Cursor, on: bool, default: u32) -> Field
     let at = c.at;
     let x = take(s, at, 16);
     if !x.there {
-        return refused_at(4, at);
+        return cut_at(s, at, at, 16);
     }
     if (x.value >> 10) & 31 == 31 {
         refused_at(6, at)

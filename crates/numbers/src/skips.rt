@@ -6,7 +6,7 @@ use bits::begin;
 use bits::bit_count;
 use bits::idle;
 use bits::kept;
-use bits::stop;
+use bits::stop_cut;
 ghost use mathlib.Core.Path.{_≡_};
 ghost use Prim.Native.Nat.{_+_, _*_, _≤_, _<_, _^_};
 ghost use Rattle.bits.specs.Codec.{skip, field};
@@ -41,13 +41,13 @@ pub fn skip_bits_if(s: &[u8], c: Cursor, on: bool, n: Sum) -> Cursor
     let at = c.at;
     let end = bit_count(s);
     if n.high != 0 {
-        return stop(4, at);
+        return stop_cut(s, at, at, n);
     }
     if end < at {
-        return stop(4, at);
+        return stop_cut(s, at, at, n);
     }
     if end - at < n.low {
-        stop(4, at)
+        stop_cut(s, at, at, n)
     } else {
         begin(at + n.low)
     }

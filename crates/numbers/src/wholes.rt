@@ -3,9 +3,9 @@ use bits::Choice;
 use bits::Choices;
 use bits::Cursor;
 use bits::Field;
-use bits::Refusal;
 use bits::Wide;
 use bits::begin;
+use bits::cut_at;
 use bits::idle;
 use bits::kept;
 use bits::look_ahead;
@@ -17,7 +17,8 @@ ghost use mathlib.Core.Path.{_≡_};
 ghost use mathlib.Core.Bool.{true, _&&_};
 ghost use Prim.Native.Nat.{_+_, _*_, _^_, _<_, _≤_};
 ghost use Rattle.bits.specs.Bits.{there, ahead};
-ghost use Rattle.bits.specs.Steps.{run, gives, takes, refusedAt};
+ghost use Rattle.bits.specs.Refusals.{pick};
+ghost use Rattle.bits.specs.Steps.{run, gives, takes, cutAt};
 ghost use Rattle.bits.specs.Codec.{u32, cases, u64, chosen, more, long, field, wideOf, signed};
 
 // The choice that a selector names.
@@ -44,6 +45,17 @@ fn u32_is_there(s: &[u8], p: u64, n: u32, whole: bool) -> bool
     if whole { true } else { reaches(s, p, n + 2) }
 }
 
+// A U32 that isn't there: its selector is cut, or the n bits after it.
+fn cut_u32(s: &[u8], p: u64, n: u32) -> Field
+    ensures { λ r. ⌜ r ≡ pick (there (now (s .entry)) p 2) (cutAt (now (s .entry)) p (p + 2 + n)) (cutAt (now (s .entry)) p (p + 2)) ⌝ }
+{
+    if reaches(s, p, 2) {
+        cut_at(s, p, p + 2, n)
+    } else {
+        cut_at(s, p, p, 2)
+    }
+}
+
 // U32 where it is asked for: the selector, then its choice. Both lie in the 56 bits ahead.
 pub fn read_u32_if(s: &[u8], c: Cursor, on: bool, d: Choices, default: u32) -> Field
     ensures { λ r. ⌜ r ≡ field (now (s .entry)) on (u32 d) default c ⌝ }
@@ -58,7 +70,7 @@ pub fn read_u32_if(s: &[u8], c: Cursor, on: bool, d: Choices, default: u32) -> F
     let a = look_ahead(s, at);
     let e = choose(d, low_bits(a.bits, 2));
     if !u32_is_there(s, at, e.bits, a.whole) {
-        return refused_at(4, at);
+        return cut_u32(s, at, e.bits);
     }
     Field {
         value: std::num::wrapping_add_u32(e.base, low_bits(a.bits >> 2, e.bits)),
@@ -91,19 +103,13 @@ pub fn read_enum_if(s: &[u8], c: Cursor, on: bool, d: Choices, n: u32, default: 
     if n <= x.value { refused_at(5, at) } else { x }
 }
 
-fn wide_refused(p: u64) -> Wide
-    ensures { λ r. ⌜ r ≡ wideOf (refusedAt 4 p) ⌝ }
+// A U64 that begins at p and whose piece of n bits from q on is cut.
+fn wide_cut(s: &[u8], p: u64, q: u64, n: u32) -> Wide
+    ensures { λ r. ⌜ r ≡ wideOf (cutAt (now (s .entry)) p (q + n)) ⌝ }
 {
-    Wide {
-        value: 0,
-        next: Cursor {
-            at: p,
-            fault: Refusal {
-                number: 4,
-                place: p,
-            },
-        },
-    }
+    let f = cut_at(s, p, q, n);
+    let next = f.next;
+    Wide { value: 0, next }
 }
 
 // A U64 of one piece: base + u(n), begun at p, now at q.
@@ -112,7 +118,7 @@ fn short(s: &[u8], p: u64, q: u64, n: u32, base: u32) -> Wide
 {
     let x = take(s, q, n);
     if !x.there {
-        return wide_refused(p);
+        return wide_cut(s, p, q, n);
     }
     Wide {
         value: (base as u64) + (x.value as u64),
@@ -127,7 +133,7 @@ fn last(s: &[u8], p: u64, q: u64, v: u64) -> Wide
 {
     let b = take(s, q, 1);
     if !b.there {
-        return wide_refused(p);
+        return wide_cut(s, p, q, 1);
     }
     if b.value == 0 {
         return Wide {
@@ -137,7 +143,7 @@ fn last(s: &[u8], p: u64, q: u64, v: u64) -> Wide
     }
     let x = take(s, b.at, 4);
     if !x.there {
-        return wide_refused(p);
+        return wide_cut(s, p, b.at, 4);
     }
     Wide {
         value: v | ((x.value as u64) << 60),
@@ -151,7 +157,7 @@ fn longer(s: &[u8], p: u64, q: u64) -> Wide
 {
     let x = take(s, q, 12);
     if !x.there {
-        return wide_refused(p);
+        return wide_cut(s, p, q, 12);
     }
     let mut v = x.value as u64;
     let mut at = x.at;
@@ -159,7 +165,7 @@ fn longer(s: &[u8], p: u64, q: u64) -> Wide
     while shift < 60 {
         let b = take(s, at, 1);
         if !b.there {
-            return wide_refused(p);
+            return wide_cut(s, p, at, 1);
         }
         if b.value == 0 {
             return Wide {
@@ -169,7 +175,7 @@ fn longer(s: &[u8], p: u64, q: u64) -> Wide
         }
         let y = take(s, b.at, 8);
         if !y.there {
-            return wide_refused(p);
+            return wide_cut(s, p, b.at, 8);
         }
         v = v | ((y.value as u64) << shift);
         at = y.at;
@@ -191,7 +197,7 @@ pub fn read_u64_if(s: &[u8], c: Cursor, on: bool, default: u64) -> Wide
     let at = c.at;
     let k = take(s, at, 2);
     if !k.there {
-        return wide_refused(at);
+        return wide_cut(s, at, at, 2);
     }
     if k.value == 0 {
         return Wide {

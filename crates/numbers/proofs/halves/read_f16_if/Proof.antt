@@ -11,11 +11,11 @@ returns : tie.Need-returns
 returns c = field-passed (c .before .before .before .before .args .s .now) _ _ _ _ _ (c .before .before .idle .ensures) (c .before .if1 .taken) _ (c .kept .ensures)
 
 returns-2 : tie.Need-returns-2
-returns-2 c = c .refused-at .ensures ∙ first-cut (c .before .before .before .before .before .before .before .args .s .now) (c .before .before .before .before .before .before .before .args .on) f16 _ _ _ (c .before .before .before .before .before .idle .ensures) _ _ refl (c .before .before .before .before .if1 .left) _ (c .before .before .before .take .ensures) (c .before .if2 .taken)
+returns-2 c = c .cut-at .ensures ∙ first-cut (c .before .before .before .before .before .before .before .args .s .now) (c .before .before .before .before .before .before .before .args .on) f16 _ _ _ (c .before .before .before .before .before .idle .ensures) _ _ refl (c .before .before .before .before .if1 .left) _ (c .before .before .before .take .ensures) (c .before .if2 .taken)
 
 returns-3 : tie.Need-returns-3
 returns-3 c =
-    c .refused-at2 .ensures
+    c .refused-at .ensures
     ∙ sym (
     first-taken (c .before .before .before .before .before .before .before .before .before .args .s .now) (c .before .before .before .before .before .before .before .before .before .args .on) f16 _ _ _ (c .before .before .before .before .before .before .before .idle .ensures) _ _ refl (c .before .before .before .before .before .before .if1 .left) _ (c .before .before .before .before .before .take .ensures) (c .before .before .before .if2 .left)
     ∙ half-bad (c .before .before .before .before .before .before .before .before .before .args .s .now) _ (c .before .before .before .before .before .take .result .at) (c .before .before .before .before .before .take .result .value) (c .before .if3 .taken)

@@ -16,13 +16,13 @@ returns : tie.Need-returns
 returns c = c .kept .ensures ∙ sym (ap (λ (f : Field). f .next) (field-idle (c .before .before .before .before .args .s .now) (c .before .before .before .before .args .on) (skip (whole (c .before .before .before .before .args .n))) 0 _ _ (c .before .before .idle .ensures) (c .before .if1 .taken)))
 
 returns-2 : tie.Need-returns-2
-returns-2 c = skip-cut (c .before .before .before .before .before .before .before .args .s .now) _ _ _ _ (c .before .before .before .before .before .idle .ensures) (c .before .before .before .before .if1 .left) _ (c .stop .ensures) (omega arith)
+returns-2 c = skip-cut (c .before .before .before .before .before .before .before .args .s .now) _ _ _ _ (c .before .before .before .before .before .idle .ensures) (c .before .before .before .before .if1 .left) _ (c .stop-cut .ensures) (omega arith)
 
 returns-3 : tie.Need-returns-3
-returns-3 c = skip-cut (c .before .before .before .before .before .before .before .before .args .s .now) _ _ _ _ (c .before .before .before .before .before .before .idle .ensures) (c .before .before .before .before .before .if1 .left) _ (c .stop2 .ensures) (omega (arith, c .before .before .before .before .bit-count .ensures, c .before .if3 .taken))
+returns-3 c = skip-cut (c .before .before .before .before .before .before .before .before .args .s .now) _ _ _ _ (c .before .before .before .before .before .before .idle .ensures) (c .before .before .before .before .before .if1 .left) _ (c .stop-cut2 .ensures) (omega (arith, c .before .before .before .before .bit-count .ensures, c .before .if3 .taken))
 
 returns-4 : tie.Need-returns-4
-returns-4 c = skip-cut (c .before .before .before .before .before .before .before .before .before .before .args .s .now) _ _ _ _ (c .before .before .before .before .before .before .before .before .idle .ensures) (c .before .before .before .before .before .before .before .if1 .left) _ (c .stop3 .ensures) (omega (arith, c .before .before .before .before .before .before .bit-count .ensures, c .before .if4 .taken))
+returns-4 c = skip-cut (c .before .before .before .before .before .before .before .before .before .before .args .s .now) _ _ _ _ (c .before .before .before .before .before .before .before .before .idle .ensures) (c .before .before .before .before .before .before .before .if1 .left) _ (c .stop-cut3 .ensures) (omega (arith, c .before .before .before .before .before .before .bit-count .ensures, c .before .if4 .taken))
 
 returns-5 : tie.Need-returns-5
 returns-5 c =

@@ -11,7 +11,7 @@ use Rattle.numbers.proofs.wholes.last.Statement.{statement}
 use Rattle.numbers.proofs.wholes.last.Tie as tie
 
 returns : tie.Need-returns
-returns c = c .wide-refused .ensures ∙ ap wideOf (sym (more-cut (c .before .before .before .before .before .args .s .now) (c .before .before .before .before .before .args .p) (c .before .before .before .before .before .args .q) (c .before .before .before .before .before .args .v) _ (c .before .before .before .take .ensures) 0 (c .before .if1 .taken)))
+returns c = c .wide-cut .ensures ∙ ap wideOf (sym (more-cut (c .before .before .before .before .before .args .s .now) (c .before .before .before .before .before .args .p) (c .before .before .before .before .before .args .q) (c .before .before .before .before .before .args .v) _ (c .before .before .before .take .ensures) 0 (c .before .if1 .taken)))
 
 returns-2 : tie.Need-returns-2
 returns-2 c =
@@ -20,7 +20,7 @@ returns-2 c =
 
 returns-3 : tie.Need-returns-3
 returns-3 c =
-    c .wide-refused2 .ensures
+    c .wide-cut2 .ensures
     ∙ ap wideOf (sym (
     more-last (c .before .before .before .before .before .before .before .before .before .before .args .s .now) (c .before .before .before .before .before .before .before .before .before .before .args .p) (c .before .before .before .before .before .before .before .before .before .before .args .q) (c .before .before .before .before .before .before .before .before .before .before .args .v) _ (c .before .before .before .before .before .before .before .before .take .ensures) (c .before .before .before .before .before .before .if1 .left) (c .before .before .before .before .if2 .left)
     ∙ run-cut (c .before .before .before .before .before .before .before .before .before .before .args .s .now) _ 4 (c .before .before .before .before .before .before .before .before .before .before .args .p) (λ x. gives (c .before .before .before .before .before .before .before .before .before .before .args .v + x * 2 ^ 60)) _ (c .before .before .before .take2 .ensures) (c .before .if3 .taken)

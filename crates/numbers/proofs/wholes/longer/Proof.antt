@@ -19,7 +19,7 @@ abbrev μ-loop : tie.MeasureT-loop
 μ-loop s p q v₀ at₀ shift₀ v at shift = 60 - shift
 
 returns : tie.Need-returns Inv-loop μ-loop
-returns c = c .wide-refused .ensures ∙ ap wideOf (sym (run-cut (c .before .before .before .before .before .args .s .now) (c .before .before .before .before .before .args .q) 12 (c .before .before .before .before .before .args .p) (more 6) _ (c .before .before .before .take .ensures) (c .before .if1 .taken)))
+returns c = c .wide-cut .ensures ∙ ap wideOf (sym (run-cut (c .before .before .before .before .before .args .s .now) (c .before .before .before .before .before .args .q) 12 (c .before .before .before .before .before .args .p) (more 6) _ (c .before .before .before .take .ensures) (c .before .if1 .taken)))
 
 loop-holds : tie.Need-loop-holds Inv-loop μ-loop
 loop-holds c = (
@@ -31,7 +31,7 @@ loop-holds c = (
 
 returns-2 : tie.Need-returns-2 Inv-loop μ-loop
 returns-2 c =
-    c .wide-refused2 .ensures
+    c .wide-cut2 .ensures
     ∙ ap wideOf (sym (c .before .before .before .before .before .loop .inv .3 ∙ more-cut (c .before .before .before .before .before .before .before .before .before .before .before .args .s .now) (c .before .before .before .before .before .before .before .before .before .before .before .args .p) _ _ _ (c .before .before .before .take2 .ensures) _ (c .before .if2 .taken)))
 
 returns-3 : tie.Need-returns-3 Inv-loop μ-loop
@@ -41,7 +41,7 @@ returns-3 c =
 
 returns-4 : tie.Need-returns-4 Inv-loop μ-loop
 returns-4 c =
-    c .wide-refused3 .ensures
+    c .wide-cut3 .ensures
     ∙ ap wideOf (sym (
     c .before .before .before .before .before .before .before .before .before .before .loop .inv .3
     ∙ more-cut-8 (c .before .before .before .before .before .before .before .before .before .before .before .before .before .before .before .before .args .s .now) (c .before .before .before .before .before .before .before .before .before .before .before .before .before .before .before .before .args .p) _ _ _ (c .before .before .before .before .before .before .before .before .take2 .ensures) (c .before .before .before .before .before .before .if2 .left) (c .before .before .before .before .if3 .left) _ (c .before .before .before .before .before .before .before .before .before .loop-test .taken) (c .before .before .before .before .before .before .before .before .before .before .loop .inv .1) _ (c .before .before .before .take3 .ensures) (c .before .if4 .taken)

@@ -20,7 +20,7 @@ u32-is-there-requires c κs = ap (λ (w : Ahead). w .whole) (c .before .before .
 returns-2 : tie.Need-returns-2
 returns-2 c =
     let a = c .before .before .before .before .before .before .before .before .before .args in
-    c .refused-at .ensures
+    c .cut-u32 .ensures
     ∙ u32-cut (a .s .now) (a .c .at) (a .d) _ (peeked (a .s .now) (a .c .at) 2 _ _ (omega arith) (ap (λ (w : Ahead). w .bits) (c .before .before .before .before .before .look-ahead .ensures)) (c .before .before .before .before .low-bits .ensures)) _ (c .before .before .before .choose .ensures) _ (c .before .before .u32-is-there .ensures) (c .before .if2 .taken)
     ∙ sym (field-run (a .s .now) (a .on) (u32 (a .d)) _ _ _ (c .before .before .before .before .before .before .before .idle .ensures) (c .before .before .before .before .before .before .if1 .left))
 

@@ -13,7 +13,7 @@ returns : tie.Need-returns
 returns c = ap wideOf (field-passed (c .before .before .before .before .args .s .now) (c .before .before .before .before .args .on) u64 _ _ _ (c .before .before .idle .ensures) (c .before .if1 .taken) _ (c .kept .ensures))
 
 returns-2 : tie.Need-returns-2
-returns-2 c = c .wide-refused .ensures ∙ ap wideOf (first-cut (c .before .before .before .before .before .before .before .args .s .now) (c .before .before .before .before .before .before .before .args .on) u64 _ _ _ (c .before .before .before .before .before .idle .ensures) _ _ refl (c .before .before .before .before .if1 .left) _ (c .before .before .before .take .ensures) (c .before .if2 .taken))
+returns-2 c = c .wide-cut .ensures ∙ ap wideOf (first-cut (c .before .before .before .before .before .before .before .args .s .now) (c .before .before .before .before .before .before .before .args .on) u64 _ _ _ (c .before .before .before .before .before .idle .ensures) _ _ refl (c .before .before .before .before .if1 .left) _ (c .before .before .before .take .ensures) (c .before .if2 .taken))
 
 returns-3 : tie.Need-returns-3
 returns-3 c =

@@ -10,7 +10,7 @@ use Rattle.numbers.proofs.wholes.short.Statement.{statement}
 use Rattle.numbers.proofs.wholes.short.Tie as tie
 
 returns : tie.Need-returns
-returns c = c .wide-refused .ensures ∙ ap wideOf (sym (run-cut (c .before .before .before .before .before .args .s .now) (c .before .before .before .before .before .args .q) (c .before .before .before .before .before .args .n) (c .before .before .before .before .before .args .p) (λ x. gives (c .before .before .before .before .before .args .base + x)) _ (c .before .before .before .take .ensures) (c .before .if1 .taken)))
+returns c = c .wide-cut .ensures ∙ ap wideOf (sym (run-cut (c .before .before .before .before .before .args .s .now) (c .before .before .before .before .before .args .q) (c .before .before .before .before .before .args .n) (c .before .before .before .before .before .args .p) (λ x. gives (c .before .before .before .before .before .args .base + x)) _ (c .before .before .before .take .ensures) (c .before .if1 .taken)))
 
 returns-2 : tie.Need-returns-2
 returns-2 c =
