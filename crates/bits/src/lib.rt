@@ -121,17 +121,16 @@ pub fn constant(c: u32) -> Choice
     Choice { base: c, bits: 0 }
 }
 
-// base + u(bits) as a choice of a U32.
-pub fn plus(base: u32, bits: u32) -> Choice
-    ensures { λ r. ⌜ r ≡ plus base bits ⌝ }
+// Four choices of a U32, each a base and so many bits.
+pub fn one_of(b0: u32, n0: u32, b1: u32, n1: u32, b2: u32, n2: u32, b3: u32, n3: u32) -> Choices
+    ensures { λ r. ⌜ r ≡ oneOf (plus b0 n0) (plus b1 n1) (plus b2 n2) (plus b3 n3) ⌝ }
 {
-    Choice { base, bits }
-}
-
-pub fn one_of(d0: Choice, d1: Choice, d2: Choice, d3: Choice) -> Choices
-    ensures { λ r. ⌜ r ≡ oneOf d0 d1 d2 d3 ⌝ }
-{
-    Choices { d0, d1, d2, d3 }
+    Choices {
+        d0: Choice { base: b0, bits: n0 },
+        d1: Choice { base: b1, bits: n1 },
+        d2: Choice { base: b2, bits: n2 },
+        d3: Choice { base: b3, bits: n3 },
+    }
 }
 
 // A place so many bits back, not before the start.

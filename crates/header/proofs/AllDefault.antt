@@ -25,7 +25,7 @@ use Rattle.header.specs.declared.parts.Back.{Back}
 use Rattle.header.specs.Arrays.{element, array, Arrayed}
 use Rattle.header.specs.Opening.{opening, upsamplings}
 use Rattle.header.specs.Shape.{passes, scales, placement}
-use Rattle.header.specs.Blending.{blending, words, byColour, Extras}
+use Rattle.header.specs.Blending.{blending, words, sourceDecider, Extras}
 use Rattle.header.specs.Closing.{closing}
 use Rattle.header.specs.Header.{noBlending, front, back, header}
 use Rattle.header.specs.Questions.{frameHeader}
@@ -107,10 +107,10 @@ module _ (f : Facts) (s : List ℕ) (c : Cursor) where
   pub default-given : (fr : Front) (ba : Back) (h : FrameHeader) (acc : Refusal) (w e : Cursor) (upsampling upsampling' channels channels' : List ℕ)
       → fr ≡ defaultFront f → ba ≡ defaultBack → h ≡ frameHeader f fr ba → acc ≡ none
       → Arrayed (u32 upsamplings) 0 (f .extra) 1 s c w upsampling upsampling'
-      → Extras false (f .extra) true (byColour 0) s c e channels channels'
+      → Extras false (f .extra) true (sourceDecider f 0) s c e channels channels'
       → Defaulted f (c .at) (record { header = h; end = c .at; refusal = acc }) upsampling upsampling' channels channels'
   default-given fr ba h acc w e upsampling upsampling' channels channels' pf pb ph pa wu we = record {
     answer = rw (ph, pf, pb, pa);
     upsampled = wu .words ∙ ap (λ (o : Out (List ℕ)). sets upsampling 0 (o .value)) (array-none (u32 upsamplings) 1 _ s c (f .extra) .is);
-    blended = we .content ∙ ap (λ (o : Out (List Blending)). sets channels 0 (words (o .value))) (times-none _ noBlending s c (λ i. blending-off true true (byColour 0) s c) (f .extra) 0 .is);
+    blended = we .content ∙ ap (λ (o : Out (List Blending)). sets channels 0 (words (o .value))) (times-none _ noBlending s c (λ i. blending-off true true (sourceDecider f 0) s c) (f .extra) 0 .is);
   }

@@ -26,16 +26,18 @@ use Rattle.header.specs.declared.shape.Placement.{Placement}
 use Rattle.header.specs.declared.blending.Blending.{Blending}
 use Rattle.header.specs.declared.blending.Decider.{Decider}
 use Rattle.header.specs.declared.closing.Closing.{Closing}
-use Rattle.header.specs.declared.blending.View.{View}
-use Rattle.header.specs.declared.blending.Seen.{Seen}
-use Rattle.header.specs.Known.{seen, seenChoice}
+use Rattle.bits.specs.declared.view.View.{View}
+use Rattle.bits.specs.declared.view.Seen.{Seen}
+use Rattle.bits.specs.View.{seen}
+use Rattle.header.specs.Known.{seenSmall}
 use Rattle.types.specs.Types.{flagged}
 use Rattle.header.specs.Opening.{opening, upsamplings}
 use Rattle.header.specs.declared.shape.Passes.{Passes}
 use Rattle.header.specs.Arrays.{array, Arrayed}
 use Rattle.header.specs.Shape.{places, passCounts, downsamples, lastPasses, passes, scales, placement}
 use Rattle.header.proofs.Walks.{array-out, read-then, busy}
-use Rattle.header.proofs.Known.{Held, held-ahead, fieldOf, see-is, see-choice}
+use Rattle.bits.proofs.Views.{Held, held-ahead, fieldOf, see-is}
+use Rattle.header.proofs.Known.{see-small}
 use Rattle.header.specs.Blending.{modes, alphas, hasSource, blending}
 use Rattle.header.specs.Closing.{durations, nameLengths, closing}
 
@@ -114,13 +116,13 @@ module _ (s : List ℕ) (p : ℕ) (ahead : Ahead) (ea : ahead ≡ aheadOf s p) (
   pub held-first : Held s first 12
   held-first = held-ahead s p 12 ahead ea whole (omega arith)
 
-  module _ (m : Seen) (em : m ≡ seenChoice first true 2) where
+  module _ (m : Seen) (em : m ≡ seenSmall first true 2) where
     pub held-mode : Held s (m .rest) 8
-    held-mode = see-choice s first true 2 8 (omega arith) held-first m em .1
+    held-mode = see-small s first true 2 8 (omega arith) held-first m em .1
 
-    module _ (alpha : Bool) (a : Seen) (eα : a ≡ seenChoice (m .rest) alpha 3) where
+    module _ (alpha : Bool) (a : Seen) (eα : a ≡ seenSmall (m .rest) alpha 3) where
       pub held-alpha : Held s (a .rest) 3
-      held-alpha = see-choice s (m .rest) alpha 3 3 (omega arith) held-mode a eα .1
+      held-alpha = see-small s (m .rest) alpha 3 3 (omega arith) held-mode a eα .1
 
       module _ (clamped : Bool) (k : Seen) (ek : k ≡ seen (a .rest) clamped 1) where
         pub held-clamp : Held s (k .rest) 2
@@ -133,10 +135,10 @@ module _ (s : List ℕ) (p : ℕ) (ahead : Ahead) (ea : ahead ≡ aheadOf s p) (
         blending-seen c on extra full d i ei go ep known two et eα' ec has eh x ex b eb =
             let stays : i ≡ false = not-true i go in
             let both = busy on (clear c) (sym ei ∙ stays) in
-            let mode : fieldOf m ≡ field s true (u32 modes) 0 c = see-choice s first true 2 8 (omega arith) held-first m em .0 ∙ rw ep (field-place s true (u32 modes) 0 c i (rw (both .0) at ei) stays) in
+            let mode : fieldOf m ≡ field s true (u32 modes) 0 c = see-small s first true 2 8 (omega arith) held-first m em .0 ∙ rw ep (field-place s true (u32 modes) 0 c i (rw (both .0) at ei) stays) in
             rw eb (blending-law s c on extra full d (fieldOf m) (fieldOf a) (fieldOf k) (fieldOf x) has
             (case-known s on modes 5 0 c i ei stays (fieldOf m) mode refl known)
-            (see-choice s (m .rest) alpha 3 3 (omega arith) held-mode a eα .0 ∙ rw (eα', et))
+            (see-small s (m .rest) alpha 3 3 (omega arith) held-mode a eα .0 ∙ rw (eα', et))
             (see-is s (a .rest) clamped 1 2 (omega arith) held-alpha k ek .0 ∙ bool-is s clamped 0 (start (a .rest .at)) ∙ rw (ec, eα', et))
             eh
             (see-is s (k .rest) has 2 0 (omega arith) held-clamp x ex .0 ∙ rw (both .0)))

@@ -15,7 +15,7 @@ use Rattle.bits.specs.Refusals.{pick, refusal, none, start}
 use Rattle.bits.specs.declared.Field.{Field}
 use Rattle.bits.specs.Codec.{u, u32, bool, field, signed}
 use Rattle.bits.specs.Bits.{bitsAt, there}
-use Rattle.bits.specs.Steps.{refusedAt, run}
+use Rattle.bits.specs.Steps.{cutAt, run}
 use Rattle.bits.specs.Table.{Out, read}
 use Rattle.header.specs.declared.Facts.{Facts}
 use Rattle.header.specs.declared.FrameHeader.{FrameHeader}
@@ -32,7 +32,7 @@ use Rattle.header.specs.declared.entry.HeaderAnswer.{HeaderAnswer}
 use Rattle.types.specs.Types.{frameType, encoding, blendMode}
 use Rattle.header.specs.Arrays.{array, Arrayed}
 use Rattle.header.specs.Opening.{upsamplings}
-use Rattle.header.specs.Blending.{coversImage, byColour, words, extras, Extras}
+use Rattle.header.specs.Blending.{coversImage, sourceDecider, words, extras, Extras}
 use Rattle.header.specs.Header.{Header, Begun, Ended, sentUpsampling, shown, front, back, header, upsamplingFrom, blendingFrom, Fronted, Backed}
 use Rattle.header.specs.Questions.{colorChannels, blendingInfo, frameHeader, zeroHeader}
 use Rattle.header.specs.Entry.{badFacts, judged, stands, refusedHeader, answered, kept, Kept, Given, Filled, Headed}
@@ -71,7 +71,7 @@ pub header-law : (f : Facts) (s : List ℕ) (a : FrontRead) (b : BackRead) (w w'
         front = a .value;
         upsampling = read (array (u32 upsamplings) (sentUpsampling f (a .value .opening)) (f .extra) 1 (λ (x : List ℕ) (i : ℕ). 0)) s (a .«upsampling_at») .value;
         back = b .value;
-        blending = read (extras (shown (a .value .opening)) (f .extra) (coversImage f (a .value .placement)) (byColour (b .value .blending .mode))) s (b .«blending_at») .value;
+        blending = read (extras (shown (a .value .opening)) (f .extra) (coversImage f (a .value .placement)) (sourceDecider f (b .value .blending .mode))) s (b .«blending_at») .value;
         name = read (array (u 8) (b .value .closing .«name_length») (b .value .closing .«name_length») 0 (λ (x : List ℕ) (i : ℕ). 0)) s (b .«name_at») .value;
       };
       next = b .next;
@@ -83,16 +83,16 @@ header-law f s a b w w' x x' fa fb =
     sym (λ i. record { value = record { front = fa .value i; upsampling = fa .upsampling i }; next = fa .next i }) in
     let second : _≡_ {A = Ended} (read (back f (a .value .opening) (a .value .placement)) s (a .next) .value) (record {
       back = b .value;
-      blending = read (extras (shown (a .value .opening)) (f .extra) (coversImage f (a .value .placement)) (byColour (b .value .blending .mode))) s (b .«blending_at») .value;
+      blending = read (extras (shown (a .value .opening)) (f .extra) (coversImage f (a .value .placement)) (sourceDecider f (b .value .blending .mode))) s (b .«blending_at») .value;
       name = read (array (u 8) (b .value .closing .«name_length») (b .value .closing .«name_length») 0 (λ (x : List ℕ) (i : ℕ). 0)) s (b .«name_at») .value;
     }) = λ i. record { back = fb .value i; blending = fb .blending i; name = fb .name i } in
     read-then (front f) _ s (start 0) (record { value = record { front = a .value; upsampling = ups }; next = a .next }) first
     ∙ read-then (back f (a .value .opening) (a .value .placement)) _ s (a .next) (read (back f (a .value .opening) (a .value .placement)) s (a .next)) refl
     ∙ rw (second, fb .next)
 
-one-by : (t : Bool) (v : ℕ) (all : Field) → all ≡ pick t (record { value = v; next = start 1 }) (refusedAt 4 0) → all .value ≡ 1 → all .next ≡ start 1
-one-by true v all e h = ap (λ (x : Field). x .next) e
-one-by false v all e h = absurd (omega (arith, ap (λ (x : Field). x .value) e, h))
+one-by : (s : List ℕ) (t : Bool) (v : ℕ) (all : Field) → all ≡ pick t (record { value = v; next = start 1 }) (cutAt s 0 1) → all .value ≡ 1 → all .next ≡ start 1
+one-by s true v all e h = ap (λ (x : Field). x .next) e
+one-by s false v all e h = absurd (omega (arith, ap (λ (x : Field). x .value) e, h))
 
 -- the first bit, where it is one: it is what the header's first field reads, and the cursor behind it has no fault
 module _ (s : List ℕ) (b : Cursor) (all : Field) (pb : b ≡ start 0) (pa : all ≡ field s true bool 0 b) (one : all .value ≡ 1) where
@@ -102,7 +102,7 @@ module _ (s : List ℕ) (b : Cursor) (all : Field) (pb : b ≡ start 0) (pa : al
 
   behind-one : all .next ≡ start 1
   unfolding field run
-  behind-one = one-by (there s 0 1) (bitsAt s 0 1) all (rw pb at pa) one
+  behind-one = one-by s (there s 0 1) (bitsAt s 0 1) all (rw pb at pa) one
 
 module _ (f : Facts) (s name upsampling blending : List ℕ) (before : Refusal) (eb : before ≡ judged (length s) f (length name) (length upsampling) (length blending)) where
   -- refused before anything was read
@@ -179,7 +179,7 @@ module _ (f : Facts) (s : List ℕ) (a : FrontRead) (b : BackRead) (upsampling u
 
   pub given-read : (w e : Cursor)
       → Arrayed (u32 upsamplings) (sentUpsampling f (a .value .opening)) (f .extra) 1 s (a .«upsampling_at») w upsampling upsampling'
-      → Extras (shown (a .value .opening)) (f .extra) (coversImage f (a .value .placement)) (byColour (b .value .blending .mode)) s (b .«blending_at») e blending blending'
+      → Extras (shown (a .value .opening)) (f .extra) (coversImage f (a .value .placement)) (sourceDecider f (b .value .blending .mode)) s (b .«blending_at») e blending blending'
       → Given f s a b upsampling upsampling' blending blending'
   given-read w e wu we = record { upsampled = wu .words; blended = we .content }
 

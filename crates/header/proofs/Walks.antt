@@ -8,15 +8,16 @@ use mathlib.Core.Logic.{by-cases}
 use native.Mathlib.Decide.{decLe}
 use lib.Dec.{ltb, leb}
 use borrow.Author.Tests.{lt-ltb, le-ltb, ltb-true, le-leb, lt-leb, leb-true, not-true, not-false}
-use lib.ListN.{length, set, take, drop, getD, length-set}
-use lib.Seq.{sets, sets-eq, drop-length, take-at, length-take-le, drop-cons, getD-take}
+use lib.ListN.{length, set, take, drop}
+use lib.Seq.{sets, sets-eq, drop-length, take-at}
+use Rattle.fill.proofs.Filling.{Filling, filling-none, filling-more, filling-all}
 use Rattle.bits.specs.declared.Cursor.{Cursor}
 use Rattle.bits.specs.declared.pieces.Piece.{Piece}
 use Rattle.bits.specs.declared.Field.{Field}
 use mathlib.Core.Bool.{Bool, true, false, not, _&&_, false≢true}
 use Rattle.bits.specs.Refusals.{pick, start, clear}
 use Rattle.bits.specs.Bits.{bitsAt, bitCount, there}
-use Rattle.bits.specs.Steps.{stopped, run, piece}
+use Rattle.bits.specs.Steps.{cut, cutAt, run, piece}
 use Rattle.bits.specs.Codec.{Codec, u, field}
 use Rattle.bits.specs.Table.{Table, ends, Out, read, bind, times}
 use Rattle.bits.proofs.Bits.{there-parts}
@@ -55,15 +56,14 @@ element-is k limit d i s c f e = rw e
 -- after i turns: the table and the cursor, and what is left to read
 pub record Left (k : Codec) (limit count d : ℕ) (s before : List ℕ) (c : Cursor) (table : List ℕ) (at : Cursor) (i : ℕ) : Type 0 where
   pub within : i ≤ count
-  pub size : length table ≡ length before
-  pub words : sets before 0 (read (times count 0 (here k limit d)) s c .value) ≡ sets table i (read (times (count - i) i (here k limit d)) s at .value)
+  pub words : Filling before 0 (read (times count 0 (here k limit d)) s c .value) table i (read (times (count - i) i (here k limit d)) s at .value)
   pub next : read (times count 0 (here k limit d)) s c .next ≡ read (times (count - i) i (here k limit d)) s at .next
 
 module _ (k : Codec) (limit count d : ℕ) (s before : List ℕ) (c : Cursor) where
   pub left-none : Left k limit count d s before c before c 0
   left-none =
       let all : count - 0 ≡ count = omega arith in
-      record { within = omega arith; size = refl; words = rw all; next = rw all }
+      record { within = omega arith; words = rw all (filling-none before 0 _); next = rw all }
 
   module _ (table : List ℕ) (at : Cursor) (i : ℕ) (l : Left k limit count d s before c table at i) where
     pub left-more : i < count → (f : Field) (v : ℕ) (after : List ℕ) → f ≡ field s (ltb i limit) k d at → v ≡ f .value → after ≡ set table i v
@@ -72,10 +72,11 @@ module _ (k : Codec) (limit count d : ℕ) (s before : List ℕ) (c : Cursor) wh
         let less : count - i ≡ suc (count - (i + 1)) = omega arith in
         let one = times-first (count - (i + 1)) i (here k limit d) s at (record { value = f .value; next = f .next }) (element-is k limit d i s at f e) in
         let is = ap (λ (m : ℕ). read (times m i (here k limit d)) s at) less ∙ one in
+        let rest = read (times (count - (i + 1)) (i + 1) (here k limit d)) s (f .next) .value in
+        let left : Filling before 0 (read (times count 0 (here k limit d)) s c .value) table i (v ∷ rest) = rw (is, ← ev, ← add-one i) at (l .words) in
         record {
           within = omega arith;
-          size = ap length ea ∙ length-set table i v ∙ l .size;
-          words = l .words ∙ ap (λ (o : Out (List ℕ)). sets table i (o .value)) is ∙ rw (ea, ev, add-one i);
+          words = filling-more before 0 _ table i v rest after left ea;
           next = l .next ∙ ap (λ (o : Out (List ℕ)). o .next) is ∙ rw (add-one i);
         }
 
@@ -85,7 +86,7 @@ module _ (k : Codec) (limit count d : ℕ) (s before : List ℕ) (c : Cursor) wh
         let none : count - i ≡ 0 = omega arith in
         record {
           next = sym (l .next ∙ ap (λ (m : ℕ). read (times m i (here k limit d)) s at .next) none);
-          words = sym (l .words ∙ ap (λ (m : ℕ). sets table i (read (times m i (here k limit d)) s at .value)) none);
+          words = filling-all before 0 _ table i (rw none at (l .words));
         }
 
 -- a table of just as many words as were read holds just those
@@ -105,33 +106,6 @@ words-length [] = refl
 words-length (b ∷ bs) =
     let four : suc (suc (suc (suc (4 * length bs)))) ≡ 4 * suc (length bs) = omega arith in
     ap (λ (n : ℕ). suc (suc (suc (suc n)))) (words-length bs) ∙ four
-
--- words of one table at the front of another: after i turns, what is left to put
-pub record LeftWords (from : List ℕ) (n : ℕ) (before table : List ℕ) (i : ℕ) : Type 0 where
-  pub within : i ≤ n
-  pub size : length table ≡ length before
-  pub content : sets before 0 (take n from) ≡ sets table i (drop i (take n from))
-
-module _ (from : List ℕ) (n : ℕ) (before : List ℕ) where
-  pub words-none : LeftWords from n before before 0
-  words-none = record { within = omega arith; size = refl; content = refl }
-
-  module _ (table : List ℕ) (i : ℕ) (l : LeftWords from n before table i) where
-    pub words-more : n ≤ length from → i < n → (v : ℕ) (after : List ℕ) → v ≡ getD from i 0 → after ≡ set table i v → LeftWords from n before after (i + 1)
-    words-more room h v after ev ea =
-        let there : i < length (take n from) = rw (length-take-le n from room) h in
-        let one : drop i (take n from) ≡ v ∷ drop (suc i) (take n from) =
-        drop-cons (take n from) i 0 there ∙ ap (λ (y : ℕ). y ∷ drop (suc i) (take n from)) (getD-take n from i 0 h ∙ sym ev) in
-        record {
-          within = omega arith;
-          size = ap length ea ∙ length-set table i v ∙ l .size;
-          content = l .content ∙ ap (sets table i) one ∙ rw (ea, add-one i);
-        }
-
-    pub words-all : n ≤ length from → n ≤ i → table ≡ sets before 0 (take n from)
-    words-all room h =
-        let end : i ≡ length (take n from) = omega (arith, l .within, length-take-le n from room) in
-        sym (l .content ∙ ap (λ (j : ℕ). sets table i (drop j (take n from))) end ∙ ap (sets table i) (drop-length (take n from)))
 
 pub byte-lt : (s : List ℕ) (c : Cursor) (f : Field) → f ≡ field s true (u 8) 0 c → f .value < 256
 byte-lt s c f e = rw e (field-lt s 8 c)
@@ -235,22 +209,19 @@ read-then t f s c o e = read-bind t f s c ∙ rw (← e)
 abbrev each : Bool → Bool → Decider → ℕ → Table Blending Blending
 each on full d i = blending on true full d
 
--- four words one after the other
-four-at : (table rest : List ℕ) (m a k x j j1 j2 j3 j4 : ℕ) → suc j ≡ j1 → suc (suc j) ≡ j2 → suc (suc (suc j)) ≡ j3 → suc (suc (suc (suc j))) ≡ j4
-    → sets table j (m ∷ a ∷ k ∷ x ∷ rest) ≡ sets (set (set (set (set table j m) j1 a) j2 k) j3 x) j4 rest
-four-at table rest m a k x j j1 j2 j3 j4 e1 e2 e3 e4 = rw (← e1, ← e2, ← e3, ← e4)
-
 pub record LeftBlending (on : Bool) (n : ℕ) (full : Bool) (d : Decider) (s before : List ℕ) (c : Cursor) (table : List ℕ) (at : Cursor) (i : ℕ) : Type 0 where
   pub within : i ≤ n
-  pub size : length table ≡ length before
-  pub content : sets before 0 (words (read (times n 0 (each on full d)) s c .value)) ≡ sets table (i * 4) (words (read (times (n - i) i (each on full d)) s at .value))
+  pub content : Filling before 0 (words (read (times n 0 (each on full d)) s c .value)) table (i * 4) (words (read (times (n - i) i (each on full d)) s at .value))
   pub next : read (times n 0 (each on full d)) s c .next ≡ read (times (n - i) i (each on full d)) s at .next
 
 module _ (on : Bool) (n : ℕ) (full : Bool) (d : Decider) (s before : List ℕ) (c : Cursor) where
+  abbrev all : List ℕ
+  all = words (read (times n 0 (each on full d)) s c .value)
+
   pub blending-none : LeftBlending on n full d s before c before c 0
   blending-none =
-      let all : n - 0 ≡ n = omega arith in
-      record { within = omega arith; size = refl; content = rw all; next = rw all }
+      let whole : n - 0 ≡ n = omega arith in
+      record { within = omega arith; content = rw whole (filling-none before 0 _); next = rw whole }
 
   module _ (table : List ℕ) (at : Cursor) (i : ℕ) (l : LeftBlending on n full d s before c table at i) where
     pub blending-more : i < n → (b : BlendingRead) (t1 t2 t3 t4 : List ℕ) → b ≡ blendingRead (read (blending on true full d) s at)
@@ -262,15 +233,18 @@ module _ (on : Bool) (n : ℕ) (full : Bool) (d : Decider) (s before : List ℕ)
         let o : Out Blending = record { value = b .value; next = b .next } in
         let eo : o ≡ read (blending on true full d) s at = ap (λ (r : BlendingRead). record { value = r .value; next = r .next }) e in
         let is = ap (λ (m : ℕ). read (times m i (each on full d)) s at) less ∙ times-first (n - (i + 1)) i (each on full d) s at o eo in
-        let after = read (times (n - (i + 1)) (suc i) (each on full d)) s (b .next) .value in
+        let after = words (read (times (n - (i + 1)) (i + 1) (each on full d)) s (b .next) .value) in
         let v = b .value in
-        let four = four-at table (words after) (v .mode) (v .«alpha_channel») (v .clamp) (v .source) (i * 4) (i * 4 + 1) (i * 4 + 2) (i * 4 + 3) ((i + 1) * 4) (omega arith) (omega arith) (omega arith) (omega arith) in
-        record {
-          within = omega arith;
-          size = ap length e4 ∙ length-set t3 (i * 4 + 3) _ ∙ ap length e3 ∙ length-set t2 (i * 4 + 2) _ ∙ ap length e2 ∙ length-set t1 (i * 4 + 1) _ ∙ ap length e1 ∙ length-set table (i * 4) _ ∙ l .size;
-          content = l .content ∙ ap (λ (o : Out (List Blending)). sets table (i * 4) (words (o .value))) is ∙ four ∙ rw (e4, e3, e2, e1, add-one i);
-          next = l .next ∙ ap (λ (o : Out (List Blending)). o .next) is ∙ rw (add-one i);
-        }
+        let j : ℕ = i * 4 in
+        let turn : j + 1 + 1 + 1 + 1 ≡ (i + 1) * 4 = omega arith in
+        let two : j + 2 ≡ j + 1 + 1 = omega arith in
+        let three : j + 3 ≡ j + 1 + 1 + 1 = omega arith in
+        let f0 : Filling before 0 all table j (v .mode ∷ v .«alpha_channel» ∷ v .clamp ∷ v .source ∷ after) = rw (is, ← add-one i) at (l .content) in
+        let f1 = filling-more before 0 all table j (v .mode) _ t1 f0 e1 in
+        let f2 = filling-more before 0 all t1 (j + 1) (v .«alpha_channel») _ t2 f1 e2 in
+        let f3 = filling-more before 0 all t2 (j + 1 + 1) (v .clamp) _ t3 f2 (e3 ∙ ap (λ (k : ℕ). set t2 k (v .clamp)) two) in
+        let f4 = filling-more before 0 all t3 (j + 1 + 1 + 1) (v .source) after t4 f3 (e4 ∙ ap (λ (k : ℕ). set t3 k (v .source)) three) in
+        record { within = omega arith; content = rw turn at f4; next = l .next ∙ ap (λ (o : Out (List Blending)). o .next) is ∙ rw (add-one i) }
 
     pub blending-all : n ≤ i → Extras on n full d s c at before table
     unfolding times read words
@@ -278,8 +252,19 @@ module _ (on : Bool) (n : ℕ) (full : Bool) (d : Decider) (s before : List ℕ)
         let none : n - i ≡ 0 = omega arith in
         record {
           next = sym (l .next ∙ ap (λ (m : ℕ). read (times m i (each on full d)) s at .next) none);
-          content = sym (l .content ∙ ap (λ (m : ℕ). sets table (i * 4) (words (read (times m i (each on full d)) s at .value))) none);
+          content = filling-all before 0 all table (i * 4) (rw none at (l .content));
         }
+
+-- a byte that begins at p is cut
+abbrev pub byteCut : List ℕ → ℕ → Cursor
+byteCut s p = cutAt s p (p + 8) .next
+
+abbrev cutOut : List ℕ → ℕ → Out ℕ
+cutOut s p = record { value = 0; next = byteCut s p }
+
+cut-held : (s : List ℕ) (p : ℕ) → clear (byteCut s p) ≡ false
+unfolding cut
+cut-held s p = refl
 
 -- Bytes that are passed over: each is there or isn't, whatever it holds.
 module _ (s : List ℕ) (limit : ℕ) where
@@ -290,7 +275,7 @@ module _ (s : List ℕ) (limit : ℕ) where
   unfolding element read field run
   one-byte i c low ok t = rw (lt-ltb i limit low, ok, t)
 
-  no-byte : (i : ℕ) (c : Cursor) → i < limit → clear c ≡ true → there s (c .at) 8 ≡ false → read (byte i) s c ≡ record { value = 0; next = stopped 4 (c .at) }
+  no-byte : (i : ℕ) (c : Cursor) → i < limit → clear c ≡ true → there s (c .at) 8 ≡ false → read (byte i) s c ≡ cutOut s (c .at)
   unfolding element read field run
   no-byte i c low ok t = rw (lt-ltb i limit low, ok, t)
 
@@ -308,18 +293,18 @@ module _ (s : List ℕ) (limit : ℕ) where
       ∙ ap (λ (x : ℕ). start x) (omega arith)
 
   -- some aren't
-  bytes-cut : (n i p : ℕ) → i + n ≤ limit → (bitCount s - p) / 8 < n → read (times n i byte) s (start p) .next ≡ stopped 4 (p + 8 * ((bitCount s - p) / 8))
+  bytes-cut : (n i p : ℕ) → i + n ≤ limit → (bitCount s - p) / 8 < n → read (times n i byte) s (start p) .next ≡ byteCut s (p + 8 * ((bitCount s - p) / 8))
   bytes-cut zero i p low short = absurd (omega arith)
   bytes-cut (suc n) i p low short =
       by-cases (decLe (p + 8) (bitCount s))
       (λ yes.
       after n i (start p) _ (sym (one-byte i (start p) (omega arith) refl (le-leb (p + 8) (bitCount s) yes)))
       ∙ bytes-cut n (suc i) (p + 8) (omega arith) (omega (arith, yes))
-      ∙ ap (λ (x : ℕ). stopped 4 x) (omega (arith, yes)))
+      ∙ ap (λ (x : ℕ). byteCut s x) (omega (arith, yes)))
       (λ no.
       after n i (start p) _ (sym (no-byte i (start p) (omega arith) refl (lt-leb (p + 8) (bitCount s) (omega (arith, no)))))
-      ∙ fault-stays (times n (suc i) byte) s (stopped 4 p) refl
-      ∙ ap (λ (x : ℕ). stopped 4 x) (omega (arith, no)))
+      ∙ fault-stays (times n (suc i) byte) s (byteCut s p) (cut-held s p)
+      ∙ ap (λ (x : ℕ). byteCut s x) (omega (arith, no)))
 
   -- a cursor with no fault counts by its place alone
   same-byte : (i : ℕ) (c : Cursor) → i < limit → clear c ≡ true → read (byte i) s (start (c .at)) ≡ read (byte i) s c
@@ -355,7 +340,7 @@ module _ (s : List ℕ) (c : Cursor) where
   go-there zero some ok room = absurd (false≢true (sym (le-ltb 0 0 (omega arith)) ∙ some))
   go-there (suc n) some ok room = sym (at-start s (suc n) n 0 c (omega arith) ok ∙ bytes-there s (suc n) (suc n) 0 (c .at) (omega arith) room)
 
-  go-cut : (count : ℕ) → ltb 0 count ≡ true → clear c ≡ true → (bitCount s - c .at) / 8 < count → stopped 4 (c .at + 8 * ((bitCount s - c .at) / 8)) ≡ behind s count c
+  go-cut : (count : ℕ) → ltb 0 count ≡ true → clear c ≡ true → (bitCount s - c .at) / 8 < count → byteCut s (c .at + 8 * ((bitCount s - c .at) / 8)) ≡ behind s count c
   go-cut zero some ok short = absurd (omega (arith, short))
   go-cut (suc n) some ok short = sym (at-start s (suc n) n 0 c (omega arith) ok ∙ bytes-cut s (suc n) (suc n) 0 (c .at) (omega arith) short)
 
@@ -366,10 +351,10 @@ module _ (s : List ℕ) (c : Cursor) where
     pub passed-there : (end : ℕ) → end ≡ bitCount s → c .at ≤ end → count ≤ (end - c .at) / 8 → (r : Cursor) → r ≡ start (c .at + 8 * count) → r ≡ behind s count c
     passed-there end ee past room r er = er ∙ go-there count (live .0) (live .1) (omega (arith, past, room, ee))
 
-    pub passed-cut : (end : ℕ) → end ≡ bitCount s → (end - c .at) / 8 < count → (r : Cursor) → r ≡ stopped 4 (c .at + 8 * ((end - c .at) / 8)) → r ≡ behind s count c
+    pub passed-cut : (end : ℕ) → end ≡ bitCount s → (end - c .at) / 8 < count → (r : Cursor) → r ≡ byteCut s (c .at + 8 * ((end - c .at) / 8)) → r ≡ behind s count c
     passed-cut end ee short r er = er ∙ rw ee (go-cut count (live .0) (live .1) (rw ee at short))
 
-    pub passed-past : (end : ℕ) → end ≡ bitCount s → end < c .at → (r : Cursor) → r ≡ stopped 4 (c .at) → r ≡ behind s count c
+    pub passed-past : (end : ℕ) → end ≡ bitCount s → end < c .at → (r : Cursor) → r ≡ byteCut s (c .at) → r ≡ behind s count c
     passed-past end ee past r er =
         let none : c .at ≡ c .at + 8 * ((end - c .at) / 8) = omega arith in
-        passed-cut end ee (omega (arith, ltb-true 0 count (live .0))) r (er ∙ ap (λ (x : ℕ). stopped 4 x) none)
+        passed-cut end ee (omega (arith, ltb-true 0 count (live .0))) r (er ∙ ap (λ (x : ℕ). byteCut s x) none)

@@ -1,7 +1,7 @@
 -- `BlendingInfo`, and what resets the canvas.
 use Prim.Native.Nat.{ℕ}
 use mathlib.Core.Path.{_≡_}
-use mathlib.Core.Bool.{Bool, true, not, _&&_, _||_}
+use mathlib.Core.Bool.{Bool, true, false, not, _&&_, _||_}
 use mathlib.Core.List.{List, [], _∷_}
 use lib.Dec.{eqb}
 use lib.IntN.{pos, _+ℤ_}
@@ -10,7 +10,7 @@ use lib.Seq.{sets}
 use Rattle.bits.specs.declared.Choices.{Choices}
 use Rattle.bits.specs.declared.Cursor.{Cursor}
 use Rattle.bits.specs.Refusals.{pick}
-use Rattle.bits.specs.Codec.{u, bool, u32, cases, val, plus, signed}
+use Rattle.bits.specs.Codec.{u, bool, u32, cases, val, plus, signed, oneOf}
 use Rattle.bits.specs.Table.{Table, Out, ends, row, times, read}
 use Rattle.header.specs.declared.Facts.{Facts}
 use Rattle.header.specs.declared.shape.Placement.{Placement}
@@ -20,11 +20,11 @@ use Rattle.header.specs.declared.blending.Decider.{Decider}
 
 -- U32(0, 1, 2, 3 + u(2)): Replace, Add, Blend, MulAdd, Mul
 abbrev pub modes : Choices
-modes = record { d0 = val 0; d1 = val 1; d2 = val 2; d3 = plus 3 2 }
+modes = oneOf (val 0) (val 1) (val 2) (plus 3 2)
 
 -- U32(0, 1, 2, 3 + u(3))
 abbrev pub alphas : Choices
-alphas = record { d0 = val 0; d1 = val 1; d2 = val 2; d3 = plus 3 3 }
+alphas = oneOf (val 0) (val 1) (val 2) (plus 3 3)
 
 -- one side: it begins at 0 or before, and ends at the image's end or behind it, in exact sums
 unfoldable pub coversSide : ℕ → ℕ → ℕ → Bool
@@ -38,12 +38,13 @@ coversImage f c = eqb (c .«have_crop») 0 || (coversSide (c .x0) (c .width) (f 
 abbrev pub resets : ℕ → Bool → Bool
 resets mode full = eqb mode 0 && full
 
--- The one place that says which mode decides on `source`: the colour channels go by their own mode, an extra channel by theirs.
+-- The one place that says which mode decides on `source`: the colour channels go by their own mode, an extra channel by the colour channels'.
 abbrev pub byOwn : Decider
 byOwn = record { own = true; mode = 0 }
 
-abbrev pub byColour : ℕ → Decider
-byColour mode = record { own = mathlib.Core.Bool.false; mode = mode }
+-- the facts say which; the colour channels' mode is given
+unfoldable pub sourceDecider : Facts → ℕ → Decider
+sourceDecider f mode = record { own = false; mode = mode }
 
 unfoldable pub hasSource : Decider → ℕ → Bool → Bool
 hasSource d own full = not (resets (pick (d .own) own (d .mode)) full)

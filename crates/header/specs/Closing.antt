@@ -4,7 +4,7 @@ use mathlib.Core.Bool.{Bool, not, _&&_, _||_}
 use lib.Dec.{eqb}
 use Rattle.bits.specs.declared.Choices.{Choices}
 use Rattle.bits.specs.Refusals.{pick}
-use Rattle.bits.specs.Codec.{u, bool, u32, val, plus}
+use Rattle.bits.specs.Codec.{u, bool, u32, val, plus, oneOf}
 use Rattle.bits.specs.Table.{Table, Out, ends, row}
 use Rattle.header.specs.declared.Facts.{Facts}
 use Rattle.header.specs.declared.opening.Opening.{Opening}
@@ -13,11 +13,11 @@ use Rattle.header.specs.declared.closing.ClosingRead.{ClosingRead}
 
 -- U32(0, 1, u(8), u(32))
 abbrev pub durations : Choices
-durations = record { d0 = val 0; d1 = val 1; d2 = plus 0 8; d3 = plus 0 32 }
+durations = oneOf (val 0) (val 1) (plus 0 8) (plus 0 32)
 
 -- U32(0, u(4), 16 + u(5), 48 + u(10))
 abbrev pub nameLengths : Choices
-nameLengths = record { d0 = val 0; d1 = plus 0 4; d2 = plus 16 5; d3 = plus 48 10 }
+nameLengths = oneOf (val 0) (plus 0 4) (plus 16 5) (plus 48 10)
 
 -- Frame types 0 and 3 are normal, 1 is the LF frame, 2 the reference-only frame. «save_before_ct» is read for a reference-only frame, and for a
 -- frame that resets the canvas and can be referenced: not the last, not an LF frame, and of no duration or saved.

@@ -24,7 +24,7 @@ use Rattle.types.specs.Types.{flagged}
 use Rattle.header.specs.Arrays.{array}
 use Rattle.header.specs.Opening.{opening, upsamplings}
 use Rattle.header.specs.Shape.{passes, scales, placement}
-use Rattle.header.specs.Blending.{coversImage, resets, byOwn, byColour, blending, extras, words}
+use Rattle.header.specs.Blending.{coversImage, resets, byOwn, sourceDecider, blending, extras, words}
 use Rattle.header.specs.Closing.{closing}
 
 -- all that a header says
@@ -73,7 +73,7 @@ back f o p =
     let full : Bool = coversImage f p in
     let on : Bool = eqb (o .«all_default») 0 in
     bind (within (λ h. h .back .blending) (blending (shown o) (not (eqb (f .extra) 0)) full byOwn)) λ colour.
-    bind (times (f .extra) 0 λ i. within (λ h. getD (h .blending) i noBlending) (blending (shown o) true full (byColour (colour .mode)))) λ channels.
+    bind (times (f .extra) 0 λ i. within (λ h. getD (h .blending) i noBlending) (blending (shown o) true full (sourceDecider f (colour .mode)))) λ channels.
     bind (within (λ h. h .back .closing) (closing f o (resets (colour .mode) full))) λ e.
     bind (array (u 8) (e .«name_length») (e .«name_length») 0 (λ h i. getD (h .name) i 0)) λ name.
     bind (within (λ h. h .back .filter) (restoration on (eqb (o .encoding) 1))) λ filter.
@@ -92,7 +92,7 @@ abbrev pub upsamplingFrom : Facts → Opening → List ℕ → Cursor → List �
 upsamplingFrom f o s c = read (array (u32 upsamplings) (sentUpsampling f o) (f .extra) 1 (λ (x : List ℕ) (i : ℕ). 0)) s c .value
 
 abbrev pub blendingFrom : Facts → Opening → Placement → ℕ → List ℕ → Cursor → List Blending
-blendingFrom f o p mode s c = read (extras (shown o) (f .extra) (coversImage f p) (byColour mode)) s c .value
+blendingFrom f o p mode s c = read (extras (shown o) (f .extra) (coversImage f p) (sourceDecider f mode)) s c .value
 
 -- the parts as they are read, where their arrays begin, and what a lent table holds of the extra channels
 pub record Fronted (f : Facts) (s : List ℕ) (r : FrontRead) (before after : List ℕ) : Type 0 where

@@ -1,18 +1,16 @@
--- Fields out of bits that are known.
-use Prim.Native.Nat.{ℕ, _+_, _/_, _%_, _^_}
+-- A U32 of small choices out of bits that are known.
+use Prim.Native.Nat.{ℕ}
 use mathlib.Core.Bool.{Bool}
-use lib.Dec.{eqb}
-use Rattle.bits.specs.Refusals.{pick}
-use Rattle.header.specs.declared.blending.View.{View}
-use Rattle.header.specs.declared.blending.Seen.{Seen}
+use Rattle.bits.specs.declared.Choices.{Choices}
+use Rattle.bits.specs.declared.view.View.{View}
+use Rattle.bits.specs.declared.view.Seen.{Seen}
+use Rattle.bits.specs.View.{seen, seenChoice}
+use Rattle.bits.specs.Codec.{val, plus, oneOf, chosen}
 
--- n bits, where they are asked for: the lowest that are known, and behind them the others
-unfoldable pub seen : View → Bool → ℕ → Seen
-seen w on n = pick on (record { value = w .bits % 2 ^ n; rest = record { bits = w .bits / 2 ^ n; at = w .at + n } }) (record { value = 0; rest = w })
+-- U32(0, 1, 2, 3 + u(n))
+abbrev pub small : ℕ → Choices
+small n = oneOf (val 0) (val 1) (val 2) (plus 3 n)
 
--- U32(0, 1, 2, 3 + u(n)): the selector, and n bits behind it where it is 3
-unfoldable pub seenChoice : View → Bool → ℕ → Seen
-seenChoice w on n =
-    let k : Seen = seen w on 2 in
-    let more : Seen = seen (k .rest) (eqb (k .value) 3) n in
-    record { value = k .value + more .value; rest = more .rest }
+-- the selector, and the choice that it names
+unfoldable pub seenSmall : View → Bool → ℕ → Seen
+seenSmall w on n = seenChoice (seen w on 2) (chosen (small n) (seen w on 2 .value))

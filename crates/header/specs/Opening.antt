@@ -3,7 +3,7 @@ use Prim.Native.Nat.{ℕ}
 use mathlib.Core.Bool.{Bool, true, not, _&&_}
 use lib.Dec.{eqb}
 use Rattle.bits.specs.declared.Choices.{Choices}
-use Rattle.bits.specs.Codec.{u, bool, u32, u64, val}
+use Rattle.bits.specs.Codec.{u, bool, u32, u64, val, oneOf}
 use Rattle.bits.specs.Table.{Table, Out, ends, row}
 use Rattle.header.specs.declared.Facts.{Facts}
 use Rattle.header.specs.declared.opening.Opening.{Opening}
@@ -12,7 +12,7 @@ use Rattle.types.specs.Types.{flagged}
 
 -- U32(1, 2, 4, 8)
 abbrev pub upsamplings : Choices
-upsamplings = record { d0 = val 1; d1 = val 2; d2 = val 4; d3 = val 8 }
+upsamplings = oneOf (val 1) (val 2) (val 4) (val 8)
 
 -- «all_default» isn't kept: a later writer writes it as 0
 unfoldable pub opening : Facts → Table Opening Opening

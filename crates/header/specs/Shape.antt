@@ -6,7 +6,7 @@ use lib.Dec.{eqb}
 use lib.ListN.{getD}
 use Rattle.bits.specs.declared.Choices.{Choices}
 use Rattle.bits.specs.Refusals.{pick}
-use Rattle.bits.specs.Codec.{u, bool, u32, val, plus}
+use Rattle.bits.specs.Codec.{u, bool, u32, val, plus, oneOf}
 use Rattle.bits.specs.Table.{Table, Out, ends, row, bind}
 use Rattle.header.specs.declared.Facts.{Facts}
 use Rattle.header.specs.declared.opening.Opening.{Opening}
@@ -21,19 +21,19 @@ use Rattle.header.specs.Opening.{upsamplings}
 
 -- U32(1, 2, 3, 4 + u(3))
 abbrev pub passCounts : Choices
-passCounts = record { d0 = val 1; d1 = val 2; d2 = val 3; d3 = plus 4 3 }
+passCounts = oneOf (val 1) (val 2) (val 3) (plus 4 3)
 
 -- U32(0, 1, 2, 3 + u(1))
 abbrev pub downsamples : Choices
-downsamples = record { d0 = val 0; d1 = val 1; d2 = val 2; d3 = plus 3 1 }
+downsamples = oneOf (val 0) (val 1) (val 2) (plus 3 1)
 
 -- U32(0, 1, 2, u(3))
 abbrev pub lastPasses : Choices
-lastPasses = record { d0 = val 0; d1 = val 1; d2 = val 2; d3 = plus 0 3 }
+lastPasses = oneOf (val 0) (val 1) (val 2) (plus 0 3)
 
 -- U32(u(8), 256 + u(11), 2304 + u(14), 18688 + u(30))
 abbrev pub places : Choices
-places = record { d0 = plus 0 8; d1 = plus 256 11; d2 = plus 2304 14; d3 = plus 18688 30 }
+places = oneOf (plus 0 8) (plus 256 11) (plus 2304 14) (plus 18688 30)
 
 -- 10 places for shifts, 4 each for the other two; those that are not sent are 0
 unfoldable pub passes : Bool → Table Passes Passes

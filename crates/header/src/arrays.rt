@@ -5,40 +5,24 @@ use bits::Cursor;
 use bits::Piece;
 use bits::begin;
 use bits::bit_count;
+use bits::cut_at;
 use bits::idle;
 use bits::read_bits;
 use bits::read_bits_if;
-use bits::stop;
 use bits::take;
+use fill::put_u8;
+use fill::put_u32;
 use numbers::read_u32_if;
 ghost use mathlib.Core.Path.{_≡_};
 ghost use mathlib.Core.Bool.{false, _&&_};
 ghost use mathlib.Core.List.{List};
 ghost use Prim.Native.Nat.{ℕ, _/_, _%_, _^_, _≤_, _<_};
 ghost use lib.Dec.{leb};
-ghost use lib.ListN.{set};
 ghost use Rattle.bits.specs.Refusals.{pick, clear};
 ghost use Rattle.bits.specs.Steps.{piece};
 ghost use Rattle.bits.specs.Codec.{u, u32};
 ghost use Rattle.bits.specs.Table.{read};
 ghost use Rattle.header.specs.Arrays.{array, Arrayed};
-
-// A word at its place, where the table has it.
-pub fn put(out: &mut [u32], k: usize, v: u32)
-    ensures { λ _. ⌜ now (out .exit) ≡ set (now (out .entry)) k v ⌝ }
-{
-    if k < out.len() {
-        out[k] = v;
-    }
-}
-
-fn put_byte(out: &mut [u8], k: usize, v: u8)
-    ensures { λ _. ⌜ now (out .exit) ≡ set (now (out .entry)) k v ⌝ }
-{
-    if k < out.len() {
-        out[k] = v;
-    }
-}
 
 // count numbers of n bits each, of which the first limit stand there.
 pub fn read_bits_array(
@@ -57,7 +41,7 @@ pub fn read_bits_array(
     while i < count {
         let f = read_bits_if(s, at, i < limit, n, default);
         let k = i as usize;
-        put(out, k, f.value);
+        put_u32(out, k, f.value);
         at = f.next;
         i += 1;
     }
@@ -81,7 +65,7 @@ pub fn read_u32_array(
     while i < count {
         let f = read_u32_if(s, at, i < limit, d, default);
         let k = i as usize;
-        put(out, k, f.value);
+        put_u32(out, k, f.value);
         at = f.next;
         i += 1;
     }
@@ -129,16 +113,16 @@ pub fn read_bytes(s: &[u8], c: Cursor, count: u32, out: &mut [u8]) -> Cursor
         let x = take_four(s, at, count - i);
         let k = i as usize;
         if x.there {
-            put_byte(out, k, byte_of(x.value, 0));
-            put_byte(out, k + 1, byte_of(x.value, 8));
-            put_byte(out, k + 2, byte_of(x.value, 16));
-            put_byte(out, k + 3, byte_of(x.value, 24));
+            put_u8(out, k, byte_of(x.value, 0));
+            put_u8(out, k + 1, byte_of(x.value, 8));
+            put_u8(out, k + 2, byte_of(x.value, 16));
+            put_u8(out, k + 3, byte_of(x.value, 24));
             at = begin(x.at);
             i += 4;
         } else {
             let f = read_bits(s, at, 8);
             let b = byte(f.value);
-            put_byte(out, k, b);
+            put_u8(out, k, b);
             at = f.next;
             i += 1;
         }
@@ -156,13 +140,16 @@ pub fn pass_bytes(s: &[u8], c: Cursor, count: u32) -> Cursor
     let at = c.at;
     let end = bit_count(s);
     if end < at {
-        return stop(4, at);
+        let f = cut_at(s, at, at, 8);
+        return f.next;
     }
     let room = (end - at) / 8;
     let n = count as u64;
     if n <= room {
         begin(at + 8 * n)
     } else {
-        stop(4, at + 8 * room)
+        let first = at + 8 * room;
+        let f = cut_at(s, first, first, 8);
+        f.next
     }
 }

@@ -1,27 +1,33 @@
 // The bundle `BlendingInfo`, of the colour channels and of each extra channel, and whether a frame resets the canvas.
 use crate::Facts;
-use crate::arrays::put;
 use crate::shape::Placement;
 use bits::Choice;
 use bits::Choices;
 use bits::Cursor;
+use bits::Seen;
+use bits::View;
 use bits::begin;
 use bits::both;
 use bits::either;
 use bits::idle;
 use bits::kept;
 use bits::look_ahead;
-use bits::low_bits;
+use bits::one_of;
 use bits::read_bits_if;
 use bits::read_bool_if;
+use bits::see;
+use bits::see_choice;
+use fill::put_u32;
 use numbers::read_enum_if;
 use numbers::read_u32_if;
 use types::BlendMode;
 ghost use mathlib.Core.Path.{_≡_};
-ghost use Prim.Native.Nat.{_*_, _≤_, _+_, _<_, _^_};
+ghost use lib.Dec.{eqb};
+ghost use Rattle.bits.specs.Refusals.{pick};
+ghost use Rattle.bits.specs.Codec.{val, plus};
 ghost use Rattle.bits.specs.Table.{read};
-ghost use Rattle.header.specs.Known.{seen, seenChoice};
-ghost use Rattle.header.specs.Blending.{modes, alphas, coversSide, coversImage, hasSource, blending, blendingRead, Extras};
+ghost use Rattle.header.specs.Known.{seenSmall};
+ghost use Rattle.header.specs.Blending.{modes, alphas, coversSide, coversImage, sourceDecider, hasSource, blending, blendingRead, Extras};
 
 pub struct BlendingInfo {
     pub mode: BlendMode,
@@ -53,24 +59,14 @@ pub struct Decider {
 fn mode_choices() -> Choices
     ensures { λ r. ⌜ r ≡ modes ⌝ }
 {
-    Choices {
-        d0: Choice { base: 0, bits: 0 },
-        d1: Choice { base: 1, bits: 0 },
-        d2: Choice { base: 2, bits: 0 },
-        d3: Choice { base: 3, bits: 2 },
-    }
+    one_of(0, 0, 1, 0, 2, 0, 3, 2)
 }
 
 // U32(0, 1, 2, 3 + u(3))
 fn alpha_choices() -> Choices
     ensures { λ r. ⌜ r ≡ alphas ⌝ }
 {
-    Choices {
-        d0: Choice { base: 0, bits: 0 },
-        d1: Choice { base: 1, bits: 0 },
-        d2: Choice { base: 2, bits: 0 },
-        d3: Choice { base: 3, bits: 3 },
-    }
+    one_of(0, 0, 1, 0, 2, 0, 3, 3)
 }
 
 // Whether one side of a frame, begun at the signed reading of n, covers the image's.
@@ -92,6 +88,13 @@ pub fn covers_image(f: Facts, c: Placement) -> bool
     either(c.have_crop == 0, both(across, down))
 }
 
+// Which mode decides on an extra channel's `source`: the facts are asked, and the colour channels' mode is given.
+pub fn source_decider(f: Facts, mode: u32) -> Decider
+    ensures { λ r. ⌜ r ≡ sourceDecider f mode ⌝ }
+{
+    Decider { own: false, mode }
+}
+
 // Whether `source` stands there: the deciding mode and the frame do not reset the canvas.
 fn has_source(d: Decider, own: u32, full: bool) -> bool
     ensures { λ r. ⌜ r ≡ hasSource d own full ⌝ }
@@ -103,52 +106,23 @@ fn has_source(d: Decider, own: u32, full: bool) -> bool
     }
 }
 
-// Bits that are known, from a place on.
-struct View {
-    pub bits: u64,
-    pub at: u64,
-}
-
-// A number out of them, and those behind it.
-struct Seen {
-    pub value: u32,
-    pub rest: View,
-}
-
-// n bits, where they are asked for.
-fn see(w: View, on: bool, n: u32) -> Seen
-    requires { ⌜ (n ≤ 8) × (w .at < 2 ^ 32) ⌝ }
-    ensures { λ r. ⌜ r ≡ seen w on n ⌝ }
+// The choice of U32(0, 1, 2, 3 + u(n)) by its selector.
+fn small_choice(k: u32, n: u32) -> Choice
+    ensures { λ r. ⌜ r ≡ pick (eqb k 3) (plus 3 n) (val k) ⌝ }
 {
-    let bits = w.bits;
-    let at = w.at;
-    if !on {
-        return Seen {
-            value: 0,
-            rest: View { bits, at },
-        };
-    }
-    Seen {
-        value: low_bits(bits, n),
-        rest: View {
-            bits: bits >> n,
-            at: at + (n as u64),
-        },
+    if k == 3 {
+        Choice { base: 3, bits: n }
+    } else {
+        Choice { base: k, bits: 0 }
     }
 }
 
-// U32(0, 1, 2, 3 + u(n)), where it is asked for.
-fn see_choice(w: View, on: bool, n: u32) -> Seen
-    requires { ⌜ (n ≤ 8) × (w .at < 2 ^ 31) ⌝ }
-    ensures { λ r. ⌜ r ≡ seenChoice w on n ⌝ }
+// U32(0, 1, 2, 3 + u(n)) out of bits that are known, where it is asked for.
+fn see_small(w: View, on: bool, n: u32) -> Seen
+    ensures { λ r. ⌜ r ≡ seenSmall w on n ⌝ }
 {
     let k = see(w, on, 2);
-    let more = see(k.rest, k.value == 3, n);
-    let rest = more.rest;
-    Seen {
-        value: k.value + more.value,
-        rest,
-    }
+    see_choice(k, small_choice(k.value, n))
 }
 
 // The bundle field by field.
@@ -196,7 +170,7 @@ pub fn read_blending_if(
         let at = c.at;
         let ahead = look_ahead(s, at);
         if ahead.whole {
-            let m = see_choice(
+            let m = see_small(
                 View {
                     bits: ahead.bits,
                     at,
@@ -206,7 +180,7 @@ pub fn read_blending_if(
             );
             if m.value < 5 {
                 let alpha = both(extra, either(m.value == 2, m.value == 3));
-                let a = see_choice(m.rest, alpha, 3);
+                let a = see_small(m.rest, alpha, 3);
                 let k = see(a.rest, either(alpha, m.value == 4), 1);
                 let x = see(k.rest, has_source(d, m.value, full), 2);
                 let rest = x.rest;
@@ -244,10 +218,10 @@ pub fn read_extra_blending(
         let b = read_blending_if(s, at, on, true, full, d);
         let v = b.value;
         let k = (i as usize) * 4;
-        put(out, k, v.mode);
-        put(out, k + 1, v.alpha_channel);
-        put(out, k + 2, v.clamp);
-        put(out, k + 3, v.source);
+        put_u32(out, k, v.mode);
+        put_u32(out, k + 1, v.alpha_channel);
+        put_u32(out, k + 2, v.clamp);
+        put_u32(out, k + 3, v.source);
         at = kept(b.next);
         i += 1;
     }

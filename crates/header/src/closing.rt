@@ -2,11 +2,11 @@
 use crate::Facts;
 use crate::opening::Opening;
 use crate::shape::either_number;
-use bits::Choice;
 use bits::Choices;
 use bits::Cursor;
 use bits::both;
 use bits::either;
+use bits::one_of;
 use bits::read_bits_if;
 use bits::read_bool_if;
 use numbers::read_u32_if;
@@ -32,24 +32,14 @@ pub struct ClosingRead {
 fn duration_choices() -> Choices
     ensures { λ r. ⌜ r ≡ durations ⌝ }
 {
-    Choices {
-        d0: Choice { base: 0, bits: 0 },
-        d1: Choice { base: 1, bits: 0 },
-        d2: Choice { base: 0, bits: 8 },
-        d3: Choice { base: 0, bits: 32 },
-    }
+    one_of(0, 0, 1, 0, 0, 8, 0, 32)
 }
 
 // U32(0, u(4), 16 + u(5), 48 + u(10))
 fn name_choices() -> Choices
     ensures { λ r. ⌜ r ≡ nameLengths ⌝ }
 {
-    Choices {
-        d0: Choice { base: 0, bits: 0 },
-        d1: Choice { base: 0, bits: 4 },
-        d2: Choice { base: 16, bits: 5 },
-        d3: Choice { base: 48, bits: 10 },
-    }
+    one_of(0, 0, 0, 4, 16, 5, 48, 10)
 }
 
 pub fn read_closing(s: &[u8], c: Cursor, f: Facts, o: Opening, resets: bool) -> ClosingRead

@@ -2,8 +2,8 @@
 use crate::Facts;
 use crate::arrays::read_u32_array;
 use crate::blending::Blending;
-use crate::blending::Decider;
 use crate::blending::read_extra_blending;
+use crate::blending::source_decider;
 use crate::closing::Closing;
 use crate::entry::HeaderAnswer;
 use crate::entry::assemble;
@@ -100,18 +100,7 @@ pub fn give_default(
     ensures { λ r. ⌜ Defaulted f (at .at) r (now (upsampling .entry)) (now (upsampling .exit)) (now (blending .entry)) (now (blending .exit)) ⌝ }
 {
     read_u32_array(s, at, 0, f.extra, upsampling_choices(), 1, upsampling);
-    read_extra_blending(
-        s,
-        at,
-        false,
-        f.extra,
-        true,
-        Decider {
-            own: false,
-            mode: 0,
-        },
-        blending,
-    );
+    read_extra_blending(s, at, false, f.extra, true, source_decider(f, 0), blending);
     let front = default_front(f);
     let back = default_back();
     let header = assemble(f, front, back);

@@ -1,14 +1,13 @@
 // The entry: bytes, facts and three lent outputs to the header's record.
 use crate::Facts;
 use crate::FrameHeader;
-use crate::arrays::put;
 use crate::arrays::read_bytes;
 use crate::arrays::read_u32_array;
 use crate::blending::Blending;
 use crate::blending::BlendingInfo;
-use crate::blending::Decider;
 use crate::blending::covers_image;
 use crate::blending::read_extra_blending;
+use crate::blending::source_decider;
 use crate::defaults::give_default;
 use crate::opening::Opening;
 use crate::opening::upsampling_choices;
@@ -28,6 +27,7 @@ use bits::begin;
 use bits::both;
 use bits::read_bool;
 use bits::refused;
+use fill::fill_u32;
 use filter::RestorationFilter;
 use filter::disabled_filter;
 use numbers::unpack_signed;
@@ -39,9 +39,6 @@ use types::blend_mode_of;
 use types::encoding_of;
 use types::frame_type_of;
 ghost use mathlib.Core.Path.{_≡_};
-ghost use Prim.Native.Nat.{_≤_};
-ghost use lib.ListN.{length, take};
-ghost use lib.Seq.{sets};
 ghost use Rattle.header.specs.Questions.{colorChannels, blendingInfo, frameHeader, noPasses, zeroHeader};
 ghost use Rattle.header.specs.Entry.{badFacts, judged, refusedHeader, Kept, Given, Filled, Headed};
 
@@ -202,8 +199,8 @@ fn bad_facts(f: Facts) -> bool
     bits::either(size, 256 < f.extra)
 }
 
-// 2, 1, 3, before anything is read.
-fn judge(n: usize, f: Facts, name: usize, upsampling: usize, blending: usize) -> Refusal
+// 2, 1, 3, before anything is read: by the input's length, the facts and the lengths of the lent buffers.
+pub fn judge_header(n: usize, f: Facts, name: usize, upsampling: usize, blending: usize) -> Refusal
     ensures { λ r. ⌜ r ≡ judged n f name upsampling blending ⌝ }
 {
     if 16777216 < n {
@@ -218,18 +215,6 @@ fn judge(n: usize, f: Facts, name: usize, upsampling: usize, blending: usize) ->
         bits::either(upsampling < extra, blending < 4 * extra),
     );
     if short { refused(3, 0) } else { accepted() }
-}
-
-// The first n words of one table at the front of another, as many as that has.
-fn put_words(from: &[u32], n: usize, out: &mut [u32])
-    requires { ⌜ n ≤ length (now from) ⌝ }
-    ensures { λ _. ⌜ now (out .exit) ≡ sets (now (out .entry)) 0 (take n (now (from .entry))) ⌝ }
-{
-    let mut i: usize = 0;
-    while i < n {
-        put(out, i, from[i]);
-        i += 1;
-    }
 }
 
 // The extra channels' words in the lent buffers: as they were kept, or read again where they are too many to keep.
@@ -248,8 +233,9 @@ fn give_channels(
 {
     if f.extra <= 8 {
         let n = f.extra as usize;
-        put_words(ups, n, upsampling);
-        put_words(channels, 4 * n, blending);
+        let m = 4 * n;
+        fill_u32(upsampling, 0, &ups[..n]);
+        fill_u32(blending, 0, &channels[..m]);
         return;
     }
     let front = a.value;
@@ -271,10 +257,7 @@ fn give_channels(
         is_shown(o),
         f.extra,
         covers_image(f, front.placement),
-        Decider {
-            own: false,
-            mode: colour.mode,
-        },
+        source_decider(f, colour.mode),
         blending,
     );
 }
@@ -318,7 +301,7 @@ pub fn read_frame_header(
 ) -> HeaderAnswer
     ensures { λ r. ⌜ Headed f (now (s .entry)) r (now (name .entry)) (now (name .exit)) (now (upsampling .entry)) (now (upsampling .exit)) (now (blending .entry)) (now (blending .exit)) ⌝ }
 {
-    let before = judge(s.len(), f, name.len(), upsampling.len(), blending.len());
+    let before = judge_header(s.len(), f, name.len(), upsampling.len(), blending.len());
     if before.number != 0 {
         return refused_header(before);
     }

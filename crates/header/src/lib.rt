@@ -10,6 +10,7 @@ mod shape;
 
 pub use blending::BlendingInfo;
 pub use entry::HeaderAnswer;
+pub use entry::judge_header;
 pub use entry::read_frame_header;
 use filter::RestorationFilter;
 use grid::Frame;

@@ -1,9 +1,9 @@
 // The header's first fields: all_default to upsampling.
 use crate::Facts;
-use bits::Choice;
 use bits::Choices;
 use bits::Cursor;
 use bits::both;
+use bits::one_of;
 use bits::read_bits_if;
 use bits::read_bool_if;
 use numbers::read_u32_if;
@@ -34,12 +34,7 @@ pub struct OpeningRead {
 pub fn upsampling_choices() -> Choices
     ensures { λ r. ⌜ r ≡ upsamplings ⌝ }
 {
-    Choices {
-        d0: Choice { base: 1, bits: 0 },
-        d1: Choice { base: 2, bits: 0 },
-        d2: Choice { base: 4, bits: 0 },
-        d3: Choice { base: 8, bits: 0 },
-    }
+    one_of(1, 0, 2, 0, 4, 0, 8, 0)
 }
 
 pub fn read_opening(s: &[u8], c: Cursor, f: Facts) -> OpeningRead

@@ -7,6 +7,7 @@ use crate::blending::Decider;
 use crate::blending::covers_image;
 use crate::blending::read_blending_if;
 use crate::blending::read_extra_blending;
+use crate::blending::source_decider;
 use crate::closing::Closing;
 use crate::closing::read_closing;
 use crate::opening::Opening;
@@ -146,7 +147,7 @@ pub fn read_back(
         shown,
         f.extra,
         full,
-        Decider { own: false, mode },
+        source_decider(f, mode),
         channels,
     );
     let e = read_closing(s, x, f, o, both(mode == 0, full));

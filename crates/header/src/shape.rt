@@ -4,10 +4,10 @@ use crate::arrays::read_bits_array;
 use crate::arrays::read_u32_array;
 use crate::opening::Opening;
 use crate::opening::upsampling_choices;
-use bits::Choice;
 use bits::Choices;
 use bits::Cursor;
 use bits::both;
+use bits::one_of;
 use bits::read_bits_if;
 use bits::read_bool_if;
 use numbers::read_u32_if;
@@ -75,57 +75,28 @@ pub fn either_number(first: bool, a: u32, b: u32) -> u32
 fn pass_choices() -> Choices
     ensures { λ r. ⌜ r ≡ passCounts ⌝ }
 {
-    Choices {
-        d0: Choice { base: 1, bits: 0 },
-        d1: Choice { base: 2, bits: 0 },
-        d2: Choice { base: 3, bits: 0 },
-        d3: Choice { base: 4, bits: 3 },
-    }
+    one_of(1, 0, 2, 0, 3, 0, 4, 3)
 }
 
 // U32(0, 1, 2, 3 + u(1))
 fn ds_choices() -> Choices
     ensures { λ r. ⌜ r ≡ downsamples ⌝ }
 {
-    Choices {
-        d0: Choice { base: 0, bits: 0 },
-        d1: Choice { base: 1, bits: 0 },
-        d2: Choice { base: 2, bits: 0 },
-        d3: Choice { base: 3, bits: 1 },
-    }
+    one_of(0, 0, 1, 0, 2, 0, 3, 1)
 }
 
 // U32(0, 1, 2, u(3))
 fn last_pass_choices() -> Choices
     ensures { λ r. ⌜ r ≡ lastPasses ⌝ }
 {
-    Choices {
-        d0: Choice { base: 0, bits: 0 },
-        d1: Choice { base: 1, bits: 0 },
-        d2: Choice { base: 2, bits: 0 },
-        d3: Choice { base: 0, bits: 3 },
-    }
+    one_of(0, 0, 1, 0, 2, 0, 0, 3)
 }
 
 // U32(u(8), 256 + u(11), 2304 + u(14), 18688 + u(30))
 fn place_choices() -> Choices
     ensures { λ r. ⌜ r ≡ places ⌝ }
 {
-    Choices {
-        d0: Choice { base: 0, bits: 8 },
-        d1: Choice {
-            base: 256,
-            bits: 11,
-        },
-        d2: Choice {
-            base: 2304,
-            bits: 14,
-        },
-        d3: Choice {
-            base: 18688,
-            bits: 30,
-        },
-    }
+    one_of(0, 8, 256, 11, 2304, 14, 18688, 30)
 }
 
 // The bundle `Passes`.

@@ -19,10 +19,10 @@ loop-holds : tie.Need-loop-holds Inv-loop μ-loop
 loop-holds c = left-none (u32 (c .before .before .args .d)) (c .before .before .args .limit) (c .before .before .args .count) (c .before .before .args .default) (c .before .before .args .s .now) (c .before .before .args .out .now) (c .before .before .args .c)
 
 loop-again : tie.Need-loop-again Inv-loop μ-loop
-loop-again c = left-more (u32 (c .before .before .before .before .before .before .before .before .before .before .args .d)) (c .before .before .before .before .before .before .before .before .before .before .args .limit) (c .before .before .before .before .before .before .before .before .before .before .args .count) (c .before .before .before .before .before .before .before .before .before .before .args .default) (c .before .before .before .before .before .before .before .before .before .before .args .s .now) (c .before .before .before .before .before .before .before .before .before .before .args .out .now) (c .before .before .before .before .before .before .before .before .before .before .args .c) (c .before .before .before .before .before .before .before .loop .out) (c .before .before .before .before .before .before .before .loop .at) (c .before .before .before .before .before .before .before .loop .i) (c .before .before .before .before .before .before .before .loop .inv) (c .before .before .before .before .before .before .loop-test .taken) (c .before .before .before .before .before .read-u32-if .result) _ _ (c .before .before .before .before .before .read-u32-if .ensures) (refl) (c .before .before .before .put .ensures)
+loop-again c = left-more (u32 (c .before .before .before .before .before .before .before .before .before .before .args .d)) (c .before .before .before .before .before .before .before .before .before .before .args .limit) (c .before .before .before .before .before .before .before .before .before .before .args .count) (c .before .before .before .before .before .before .before .before .before .before .args .default) (c .before .before .before .before .before .before .before .before .before .before .args .s .now) (c .before .before .before .before .before .before .before .before .before .before .args .out .now) (c .before .before .before .before .before .before .before .before .before .before .args .c) (c .before .before .before .before .before .before .before .loop .out) (c .before .before .before .before .before .before .before .loop .at) (c .before .before .before .before .before .before .before .loop .i) (c .before .before .before .before .before .before .before .loop .inv) (c .before .before .before .before .before .before .loop-test .taken) (c .before .before .before .before .before .read-u32-if .result) _ _ (c .before .before .before .before .before .read-u32-if .ensures) (refl) (c .before .before .before .put-u32 .ensures)
 
 same-length : tie.Need-same-length Inv-loop μ-loop
-same-length c = c .before .loop .inv .size
+same-length c = c .before .loop .inv .words .size
 
 returns : tie.Need-returns Inv-loop μ-loop
 returns c = left-all (u32 (c .before .before .before .before .args .d)) (c .before .before .before .before .args .limit) (c .before .before .before .before .args .count) (c .before .before .before .before .args .default) (c .before .before .before .before .args .s .now) (c .before .before .before .before .args .out .now) (c .before .before .before .before .args .c) (c .before .loop .out) (c .before .loop .at) (c .before .loop .i) (c .before .loop .inv) (c .loop-test .left)

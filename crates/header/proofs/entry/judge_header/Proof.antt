@@ -2,8 +2,8 @@
 use borrow.Author.Needs.{needs}
 use mathlib.Core.Path.{refl, sym, _∙_, ap}
 use Rattle.header.proofs.Entering.{too-long, bad-facts, short, good}
-use Rattle.header.proofs.entry.judge.Statement.{statement}
-use Rattle.header.proofs.entry.judge.Tie as tie
+use Rattle.header.proofs.entry.judge_header.Statement.{statement}
+use Rattle.header.proofs.entry.judge_header.Tie as tie
 
 returns : tie.Need-returns
 returns c = too-long (c .before .before .args .n) (c .before .before .args .f) (c .before .before .args .name) (c .before .before .args .upsampling) (c .before .before .args .blending) _ (c .before .if1 .taken) (c .refused .ensures)
@@ -17,8 +17,8 @@ returns-3 c = short (c .before .before .before .before .before .before .before .
 returns-4 : tie.Need-returns-4
 returns-4 c = good (c .before .before .before .before .before .before .before .before .args .n) (c .before .before .before .before .before .before .before .before .args .f) (c .before .before .before .before .before .before .before .before .args .name) (c .before .before .before .before .before .before .before .before .args .upsampling) (c .before .before .before .before .before .before .before .before .args .blending) _ (c .before .before .before .before .before .before .before .if1 .left) _ (c .before .before .before .before .before .before .bad-facts .ensures) (c .before .before .before .before .before .if2 .left) _ _ (c .before .before .before .either .ensures) (c .before .before .either2 .ensures) (c .before .if3 .left) (c .accepted .ensures)
 
-pub judge-spec : {M : Type 1} → statement M
-judge-spec =
+pub judge-header-spec : {M : Type 1} → statement M
+judge-header-spec =
     tie.close
     (tie.spec
     (λ c κs. search needs)
