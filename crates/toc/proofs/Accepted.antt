@@ -34,8 +34,9 @@ use Rattle.toc.specs.Walks.{sizeAt, padded, walked}
 use Rattle.toc.specs.Reading.{Tables, roomy, judged, Reading, tocOf, sizedAnswer, firstReading, secondReading, tablesOf, written, after}
 use Rattle.sections.proofs.Counts.{Counts, counts}
 use Rattle.toc.proofs.Walking.{size-small, rows-read}
-use Rattle.toc.proofs.Judging.{Room, Fair}
-use Rattle.toc.proofs.Entering.{fair, roomed, first-refused, first-needed, first-is, second-refused, second-bad, second-is, lent-order}
+use Rattle.toc.specs.Walks.{Room}
+use Rattle.toc.proofs.Judging.{Fair}
+use Rattle.toc.proofs.Entering.{sized-reading, fair, roomed, first-refused, first-needed, first-is, second-refused, second-bad, second-is, lent-order}
 
 -- an accepted table: count, order, sizes as sent, data start, total, room, and what was written
 pub record Accepted (s : List ℕ) (f : Frame) (t : Tables) (toc : Toc) (q : Reading) : Type 0 where
@@ -140,7 +141,9 @@ first-accepted s f place t toc e =
     let flag : Field = field s true bool 0 (start place) in
     split (eqb (flag .value) 0)
     (λ p.
-    let is = first-is s f place t g refl (roomy (g .sections) t) refl r refl z (start place) refl flag refl (eqb-true (flag .value) 0 p) in
+    let is =
+    sym (first-is s f place t g refl (roomy (g .sections) t) refl r refl z (start place) refl flag refl (eqb-true (flag .value) 0 p))
+    ∙ sized-reading s (flag .next) (g .sections) (identity (g .sections)) in
     let inside : flag .next .at ≤ bitCount s = field-within s true bool 0 (start place) (place-within s place (ok .short) (ok .inside)) in
     let a =
     accepted-by s f t toc (firstReading s f place t) (identity (g .sections)) (flag .next) is e (identity-order (g .sections)) place (roomy (g .sections) t) ok
@@ -164,7 +167,9 @@ second-accepted s f place lent t toc e =
     split (eqb (bad .number) 0)
     (λ b'.
     let b : bad .number ≡ 0 = eqb-true (bad .number) 0 b' in
-    let is = second-is s f place t g refl (roomy (g .sections) t) refl r refl z lent bad refl b (start place) refl in
+    let is =
+    sym (second-is s f place t g refl (roomy (g .sections) t) refl r refl z lent bad refl b (start place) refl)
+    ∙ sized-reading s (start place) (g .sections) lent in
     let a =
     accepted-by s f t toc (secondReading s f place lent t) lent (start place) is e
     (lent-order s f place t g refl (roomy (g .sections) t) refl r refl z lent bad refl b) place (roomy (g .sections) t) ok

@@ -4,7 +4,7 @@ use native.Mathlib.Omega.{arith}
 use native.Mathlib.Nat.{le-refl}
 use mathlib.Core.Path.{_≡_, refl, sym, _∙_, ap}
 use mathlib.Core.List.{List, []}
-use mathlib.Core.Bool.{Bool, true}
+use mathlib.Core.Bool.{Bool, true, false}
 use lib.ListN.{length, take}
 use lib.Dec.{eqb}
 use lib.Seq.{take-all}
@@ -30,10 +30,10 @@ use Rattle.toc.specs.declared.Toc.{Toc}
 use Rattle.toc.specs.declared.TocRead.{TocRead}
 use Rattle.toc.specs.declared.TocRead.the-variants.{Table, OrderNeeded, Refused}
 use Rattle.toc.specs.Sizes.{Sent, sizeRows, tocRows}
-use Rattle.toc.specs.Walks.{sizeAt, offsetAt, padded, walked}
-use Rattle.toc.specs.Reading.{Tables, roomy, judgedBy, judged, judgedOrder, Reading, tocOf, sizedAnswer, firstRead, secondRead, refusedRead, firstReading, secondReading, tablesOf, written, after, Done}
+use Rattle.toc.specs.Walks.{sizeAt, offsetAt, padded, walked, Room, orderBy}
+use Rattle.toc.specs.Reading.{Tables, roomy, judgedBy, judged, judgedOrder, Reading, tocOf, sizedAnswer, firstRead, secondRead, sizedReading, refusedRead, firstReading, secondReading, tablesOf, written, after, Done}
 use Rattle.toc.proofs.Walking.{rows-read}
-use Rattle.toc.proofs.Judging.{Room, room-parts, Fair, judged-fair}
+use Rattle.toc.proofs.Judging.{room-parts, Fair, judged-fair}
 use Rattle.toc.proofs.Filling.{sent-before, placed-by-section, offsets-by, sizes-by}
 
 -- ---- the reading of the rows
@@ -89,57 +89,63 @@ unfolding written
 kept-needed t p z l = refl
 
 -- a reading with an order l, from the padding at c on
-module _ (s : List ℕ) (c : Cursor) (count : ℕ) (l : List ℕ) (w : Walk) (ew : w ≡ walked s c count) (q : Reading)
-    (eq : q ≡ record { answer = sizedAnswer count (tabulate count (sizeAt s (padded s c))) (walked s c count .last); order = l; sizes = tabulate count (sizeAt s (padded s c)) }) (t : Tables)
-  where
-    answer-is : q .answer ≡ sizedAnswer count (tabulate count (sizeAt s (padded s c))) (w .last)
-    answer-is = ap (λ (x : Reading). x .answer) eq ∙ rw ew
+pub sized-reading : (s : List ℕ) (c : Cursor) (count : ℕ) (l : List ℕ) → sizedReading s c count l
+    ≡ record { answer = sizedAnswer count (tabulate count (sizeAt s (padded s c))) (walked s c count .last); order = l; sizes = tabulate count (sizeAt s (padded s c)) }
+unfolding sizedReading secondRead
+sized-reading s c count l = rw (rows-read s c count)
 
-    pub done-fault : (w .last .fault .number ≡ 0 → ⊥) → Done q t (Refused (w .last .fault)) (t .offsets) (t .sizes) (t .order) (t .inverse)
-    unfolding sizedAnswer
-    done-fault h = done-kept q t (Refused (w .last .fault)) (answer-is ∙ rw (ne-eqb (w .last .fault .number) 0 h)) (kept-refused t (w .last .fault))
+module _ (s : List ℕ) (c : Cursor) (count : ℕ) (l : List ℕ) (w : Walk) (ew : w ≡ walked s c count) (t : Tables) where
+  abbrev q : Reading
+  q = sizedReading s c count l
 
-    toc-is : w .last .fault .number ≡ 0
-        → sizedAnswer count (tabulate count (sizeAt s (padded s c))) (w .last) ≡ Table (record { count = count; bookmark = w .last .at / 8; «total_byte_size» = w .total })
-    unfolding sizedAnswer tocOf walked
-    toc-is h = rw (eq-eqb (w .last .fault .number) 0 h, sent-before count (sizeAt s (padded s c)) count (le-refl count), ew)
+  answer-is : q .answer ≡ sizedAnswer count (tabulate count (sizeAt s (padded s c))) (w .last)
+  answer-is = ap (λ (x : Reading). x .answer) (sized-reading s c count l) ∙ rw ew
 
-    toc-at : w .last .fault .number ≡ 0
-        → sizedAnswer count (tabulate count (sizeAt s (padded s c))) (walked s c count .last) ≡ Table (record { count = count; bookmark = w .last .at / 8; «total_byte_size» = w .total })
-    toc-at h = rw (← ew) (toc-is h)
+  pub done-fault : (w .last .fault .number ≡ 0 → ⊥) → Done q t (Refused (w .last .fault)) (t .offsets) (t .sizes) (t .order) (t .inverse)
+  unfolding sizedAnswer
+  done-fault h = done-kept q t (Refused (w .last .fault)) (answer-is ∙ rw (ne-eqb (w .last .fault .number) 0 h)) (kept-refused t (w .last .fault))
 
-    walk-first : w .first ≡ padded s c
-    unfolding walked
-    walk-first = ap (λ (x : Walk). x .first) ew
+  toc-is : w .last .fault .number ≡ 0
+      → sizedAnswer count (tabulate count (sizeAt s (padded s c))) (w .last) ≡ Table (record { count = count; bookmark = w .last .at / 8; «total_byte_size» = w .total })
+  unfolding sizedAnswer tocOf walked
+  toc-is h = rw (eq-eqb (w .last .fault .number) 0 h, sent-before count (sizeAt s (padded s c)) count (le-refl count), ew)
 
-    pub done-table : isOrder count l ≡ true → Room count (length (t .offsets)) (length (t .sizes)) (length (t .order)) (length (t .inverse)) → w .last .fault .number ≡ 0
-        → (o' s' p' i' : List ℕ) → p' ≡ filled l (t .order) → i' ≡ filled (inverseOf count l) (t .inverse)
-        → o' ≡ placedBy (offsetAt s (w .first) (w .last .at / 8)) 0 (take count i') (t .offsets)
-        → s' ≡ placedBy (sizeAt s (w .first)) 0 (take count i') (t .sizes)
-        → Done q t (Table (record { count = count; bookmark = w .last .at / 8; «total_byte_size» = w .total })) o' s' p' i'
-    unfolding written tablesOf
-    done-table o room h o' s' p' i' ep ei eo es =
-        let z : List ℕ = tabulate count (sizeAt s (padded s c)) in
-        let toc : Toc = record { count = count; bookmark = w .last .at / 8; «total_byte_size» = w .total } in
-        let is : after q t ≡ tablesOf toc z l t =
-        ap (λ (x : Reading). after x t) eq ∙ ap (λ (a : TocRead). written a z l t) (toc-at h) in
-        let eo' : o' ≡ placedBy (offsetAt s (padded s c) (w .last .at / 8)) 0 (take count i') (t .offsets) = rw walk-first at eo in
-        let es' : s' ≡ placedBy (sizeAt s (padded s c)) 0 (take count i') (t .sizes) = rw walk-first at es in
-        record {
-          answer = sym (answer-is ∙ toc-is h);
-          offsets =
-              eo'
-              ∙ placed-by-section count l o (offsetAt s (padded s c) (w .last .at / 8)) (t .inverse) i' (t .offsets) ei (room .inverse) (room .offsets)
-              ∙ ap (λ (m : List ℕ). filled m (t .offsets)) (offsets-by count l o s (padded s c) (w .last .at / 8))
-              ∙ sym (ap (λ (x : Tables). x .offsets) is);
-          sizes =
-              es'
-              ∙ placed-by-section count l o (sizeAt s (padded s c)) (t .inverse) i' (t .sizes) ei (room .inverse) (room .sizes)
-              ∙ ap (λ (m : List ℕ). filled m (t .sizes)) (sizes-by count l o s (padded s c))
-              ∙ sym (ap (λ (x : Tables). x .sizes) is);
-          order = ep ∙ sym (ap (λ (x : Tables). x .order) is);
-          inverse = ei ∙ sym (ap (λ (x : Tables). x .inverse) is);
-        }
+  toc-at : w .last .fault .number ≡ 0
+      → sizedAnswer count (tabulate count (sizeAt s (padded s c))) (walked s c count .last) ≡ Table (record { count = count; bookmark = w .last .at / 8; «total_byte_size» = w .total })
+  toc-at h = rw (← ew) (toc-is h)
+
+  walk-first : w .first ≡ padded s c
+  unfolding walked
+  walk-first = ap (λ (x : Walk). x .first) ew
+
+  pub done-table : isOrder count l ≡ true → Room count (length (t .offsets)) (length (t .sizes)) (length (t .order)) (length (t .inverse)) → w .last .fault .number ≡ 0
+      → (o' s' p' i' : List ℕ) → p' ≡ filled l (t .order) → i' ≡ filled (inverseOf count l) (t .inverse)
+      → o' ≡ placedBy (offsetAt s (w .first) (w .last .at / 8)) 0 (take count i') (t .offsets)
+      → s' ≡ placedBy (sizeAt s (w .first)) 0 (take count i') (t .sizes)
+      → Done q t (Table (record { count = count; bookmark = w .last .at / 8; «total_byte_size» = w .total })) o' s' p' i'
+  unfolding written tablesOf
+  done-table o room h o' s' p' i' ep ei eo es =
+      let z : List ℕ = tabulate count (sizeAt s (padded s c)) in
+      let toc : Toc = record { count = count; bookmark = w .last .at / 8; «total_byte_size» = w .total } in
+      let is : after q t ≡ tablesOf toc z l t =
+      ap (λ (x : Reading). after x t) (sized-reading s c count l) ∙ ap (λ (a : TocRead). written a z l t) (toc-at h) in
+      let eo' : o' ≡ placedBy (offsetAt s (padded s c) (w .last .at / 8)) 0 (take count i') (t .offsets) = rw walk-first at eo in
+      let es' : s' ≡ placedBy (sizeAt s (padded s c)) 0 (take count i') (t .sizes) = rw walk-first at es in
+      record {
+        answer = sym (answer-is ∙ toc-is h);
+        offsets =
+            eo'
+            ∙ placed-by-section count l o (offsetAt s (padded s c) (w .last .at / 8)) (t .inverse) i' (t .offsets) ei (room .inverse) (room .offsets)
+            ∙ ap (λ (m : List ℕ). filled m (t .offsets)) (offsets-by count l o s (padded s c) (w .last .at / 8))
+            ∙ sym (ap (λ (x : Tables). x .offsets) is);
+        sizes =
+            es'
+            ∙ placed-by-section count l o (sizeAt s (padded s c)) (t .inverse) i' (t .sizes) ei (room .inverse) (room .sizes)
+            ∙ ap (λ (m : List ℕ). filled m (t .sizes)) (sizes-by count l o s (padded s c))
+            ∙ sym (ap (λ (x : Tables). x .sizes) is);
+        order = ep ∙ sym (ap (λ (x : Tables). x .order) is);
+        inverse = ei ∙ sym (ap (λ (x : Tables). x .inverse) is);
+      }
 
 -- ---- the entries
 
@@ -175,14 +181,9 @@ module _ (s : List ℕ) (f : Frame) (place : ℕ) (t : Tables) (g : Grid) (m : g
           (kept-needed t (flag .next .at))
 
       pub first-is : flag .value ≡ 0
-          → firstReading s f place t
-          ≡ record {
-            answer = sizedAnswer (g .sections) (tabulate (g .sections) (sizeAt s (padded s (flag .next)))) (walked s (flag .next) (g .sections) .last);
-            order = identity (g .sections);
-            sizes = tabulate (g .sections) (sizeAt s (padded s (flag .next)));
-          }
-      unfolding firstRead
-      first-is h = first-goes _ (rows-plain s b (g .sections) flag ef h) ∙ rw (eq-eqb (flag .value) 0 h)
+          → sizedReading s (flag .next) (g .sections) (identity (g .sections)) ≡ firstReading s f place t
+      unfolding firstRead sizedReading secondRead
+      first-is h = rw (rows-read s (flag .next) (g .sections)) (sym (first-goes _ (rows-plain s b (g .sections) flag ef h) ∙ rw (eq-eqb (flag .value) 0 h)))
 
     -- the second entry
     second-judged : (lent : List ℕ) (bad : Refusal) → bad ≡ checked (g .sections) lent → r .number ≡ 0 → bad ≡ judgedOrder s (gridOf f) place lent t
@@ -204,22 +205,19 @@ module _ (s : List ℕ) (f : Frame) (place : ℕ) (t : Tables) (g : Grid) (m : g
       lent-order h = accepted (g .sections) lent (sym (ap number e) ∙ h) .1
 
       pub second-is : bad .number ≡ 0 → (b : Cursor) → b ≡ start place
-          → secondReading s f place lent t
-          ≡ record {
-            answer = sizedAnswer (g .sections) (tabulate (g .sections) (sizeAt s (padded s b))) (walked s b (g .sections) .last);
-            order = lent;
-            sizes = tabulate (g .sections) (sizeAt s (padded s b));
-          }
-      unfolding secondReading secondRead
-      second-is h b eb = rw (← second-judged lent bad e z, eq-eqb (bad .number) 0 h, ← m, ← eb, rows-read s b (g .sections))
+          → sizedReading s b (g .sections) lent ≡ secondReading s f place lent t
+      unfolding secondReading sizedReading
+      second-is h b eb = rw (← second-judged lent bad e z, eq-eqb (bad .number) 0 h, ← m, ← eb)
 
 -- the orders that the entries write
-pub identity-back : (count : ℕ) (table t : List ℕ) → t ≡ filled (identity count) table → t ≡ filled (inverseOf count (identity count)) table
-identity-back count table t e = e ∙ ap (λ (l : List ℕ). filled l table) (sym (identity-inverse count))
+module _ (lent : List ℕ) (count : ℕ) (order inverse p i : List ℕ) where
+  pub orders-identity : (given : Bool) → given ≡ false → p ≡ filled (identity count) order → i ≡ filled (identity count) inverse
+      → (p ≡ filled (orderBy given lent count) order) × (i ≡ filled (inverseOf count (orderBy given lent count)) inverse)
+  orders-identity given e ep ei = rw e (ep, ei ∙ ap (λ (l : List ℕ). filled l inverse) (sym (identity-inverse count)))
 
-module _ (count : ℕ) (l table t : List ℕ) (o : isOrder count l ≡ true) where
-  pub lent-there : t ≡ filled (take count l) table → t ≡ filled l table
-  lent-there e = e ∙ ap (λ (m : List ℕ). filled m table) (take-all count l (omega (arith, order-length count l o)))
-
-  pub lent-back : count ≤ length table → t ≡ placed (take count l) table → t ≡ filled (inverseOf count l) table
-  lent-back fits e = e ∙ placed-inverse count l table o fits
+  pub orders-lent : (given : Bool) → given ≡ true → isOrder count (orderBy given lent count) ≡ true → count ≤ length inverse
+      → p ≡ filled (take count lent) order → i ≡ placed (take count lent) inverse
+      → (p ≡ filled (orderBy given lent count) order) × (i ≡ filled (inverseOf count (orderBy given lent count)) inverse)
+  orders-lent given e o fits ep ei =
+      let ok : isOrder count lent ≡ true = rw e at o in
+      rw e (ep ∙ ap (λ (m : List ℕ). filled m order) (take-all count lent (omega (arith, order-length count lent ok))), ei ∙ placed-inverse count lent inverse ok fits)

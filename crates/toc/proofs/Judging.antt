@@ -11,18 +11,12 @@ use Rattle.bits.specs.declared.Refusal.{Refusal}
 use Rattle.bits.specs.Refusals.{pick, refusal, none}
 use Rattle.grid.specs.declared.Grid.{Grid}
 use Rattle.grid.proofs.Accepted.{and-parts}
+use Rattle.toc.specs.Walks.{Room}
 use Rattle.toc.specs.Reading.{roomFor, judgedBy}
 
 pub room-by : (count o s p i : ℕ) (a b r : Bool) → a ≡ (leb count o && leb count s) → b ≡ (leb count p && leb count i) → r ≡ (a && b) → r ≡ roomFor count o s p i
 unfolding roomFor
 room-by count o s p i a b r ea eb e = rw (← ea, ← eb) e
-
--- room for all
-pub record Room (count o s p i : ℕ) : Type 0 where
-  pub offsets : count ≤ o
-  pub sizes : count ≤ s
-  pub order : count ≤ p
-  pub inverse : count ≤ i
 
 pub room-parts : (count o s p i : ℕ) → roomFor count o s p i ≡ true → Room count o s p i
 unfolding roomFor

@@ -24,9 +24,10 @@ use Rattle.order.specs.Sums.{sumTo}
 use Rattle.order.proofs.Tables.{tabulate-ext}
 use Rattle.order.proofs.Placed.{Placing, placing-more}
 use Rattle.toc.specs.declared.reading.Pair.{Pair}
+use Rattle.toc.specs.declared.reading.Summed.{Summed}
 use Rattle.toc.specs.declared.reading.Walk.{Walk}
 use Rattle.toc.specs.Sizes.{sizeChoices, sizeRow, sizeRows}
-use Rattle.toc.specs.Walks.{cursorAt, sizeAt, offsetAt, Two, padded, walked}
+use Rattle.toc.specs.Walks.{cursorAt, sizeAt, offsetAt, Two, padded, summed, walked}
 
 -- a size is below 4211712 + 2^30
 pub choice-small : (k : ℕ) → chosen sizeChoices k .base + 2 ^ chosen sizeChoices k .bits ≤ 1077953536
@@ -112,41 +113,30 @@ module _ (s : List ℕ) (first : Cursor) (start : ℕ) (at : Cursor) (k sum : �
       let turns : k + 1 + 1 ≡ k + 2 = omega arith in
       rw (eb, ← turns) (walking-more s first start (one .next) (k + 1) (sum + p .first) pair-between other (t .second))
 
--- a turn that fills: the offset and the size of number k are written at its section
-module _ (s : List ℕ) (first : Cursor) (start : ℕ) (l : List ℕ) (count k : ℕ) (low : k < count) (there : k < length l) (before table next : List ℕ) (v : ℕ) (e : next ≡ set table (getD l k 0) v) where
-  pub offsets-more : v ≡ offsetAt s first start k → Placing (offsetAt s first start) (take count l) before table k
-      → Placing (offsetAt s first start) (take count l) before next (k + 1)
-  offsets-more ev p = placing-more (offsetAt s first start) l count before table k p next low there (e ∙ ap (set table (getD l k 0)) ev)
+-- a turn that fills: a word of number k is written at its section, and two such turns at once
+module _ (g : ℕ → ℕ) (l : List ℕ) (count k : ℕ) (before table : List ℕ) (p : Placing g (take count l) before table k) where
+  pub turn-more : k < count → k < length l → (next : List ℕ) (v : ℕ) → next ≡ set table (getD l k 0) v → v ≡ g k → Placing g (take count l) before next (k + 1)
+  turn-more low there next v e ev = placing-more g l count before table k p next low there (e ∙ ap (set table (getD l k 0)) ev)
 
-  pub sizes-more : v ≡ sizeAt s first k → Placing (sizeAt s first) (take count l) before table k
-      → Placing (sizeAt s first) (take count l) before next (k + 1)
-  sizes-more ev p = placing-more (sizeAt s first) l count before table k p next low there (e ∙ ap (set table (getD l k 0)) ev)
+pub turn-two : (g : ℕ → ℕ) (l : List ℕ) (count k : ℕ) (before table : List ℕ) → Placing g (take count l) before table k → k + 1 < count → k + 1 < length l → (t1 t2 : List ℕ) (v1 v2 : ℕ)
+    → t1 ≡ set table (getD l k 0) v1 → t2 ≡ set t1 (getD l (k + 1) 0) v2 → v1 ≡ g k → v2 ≡ g (k + 1) → Placing g (take count l) before t2 (k + 2)
+turn-two g l count k before table p low there t1 t2 v1 v2 e1 e2 a b =
+    let turns : k + 1 + 1 ≡ k + 2 = omega arith in
+    rw (← turns) (turn-more g l count (k + 1) before t1 (turn-more g l count k before table p (omega arith) (omega arith) t1 v1 e1 a) low there t2 v2 e2 b)
 
--- two such turns at once
-module _ (s : List ℕ) (first : Cursor) (start : ℕ) (l : List ℕ) (count k : ℕ) (low : k + 1 < count) (there : k + 1 < length l) (before table t1 t2 : List ℕ) (v1 v2 : ℕ)
-    (e1 : t1 ≡ set table (getD l k 0) v1) (e2 : t2 ≡ set t1 (getD l (k + 1) 0) v2)
-  where
-    turns : k + 1 + 1 ≡ k + 2
-    turns = omega arith
-
-    pub offsets-two : v1 ≡ offsetAt s first start k → v2 ≡ offsetAt s first start (k + 1) → Placing (offsetAt s first start) (take count l) before table k
-        → Placing (offsetAt s first start) (take count l) before t2 (k + 2)
-    offsets-two a b p =
-        rw (← turns) (offsets-more s first start l count (k + 1) low there before t1 t2 v2 e2 b (offsets-more s first start l count k (omega arith) (omega arith) before table t1 v1 e1 a p))
-
-    pub sizes-two : v1 ≡ sizeAt s first k → v2 ≡ sizeAt s first (k + 1) → Placing (sizeAt s first) (take count l) before table k
-        → Placing (sizeAt s first) (take count l) before t2 (k + 2)
-    sizes-two a b p =
-        rw (← turns) (sizes-more s first start l count (k + 1) low there before t1 t2 v2 e2 b (sizes-more s first start l count k (omega arith) (omega arith) before table t1 v1 e1 a p))
-
--- what the walk that judges comes to
-pub walk-done : (s : List ℕ) (c : Cursor) (count : ℕ) (first at last : Cursor) (k total : ℕ) → first ≡ padded s c → k ≤ count → count ≤ k → Walking s first 0 at k total
-    → last ≡ padded s at → _≡_ {A = Walk} (record { first = first; last = last; total = total }) (walked s c count)
-unfolding walked offsetAt
-walk-done s c count first at last k total ef low high w el =
+-- what the walk over the sizes comes to, and the walk between its paddings
+pub sum-done : (s : List ℕ) (first : Cursor) (count : ℕ) (at : Cursor) (k total : ℕ) → k ≤ count → count ≤ k → Walking s first 0 at k total
+    → _≡_ {A = Summed} (record { at = at; total = total }) (summed s first count)
+unfolding summed offsetAt
+sum-done s first count at k total low high w =
     let same : k ≡ count = omega arith in
     let sum : total ≡ sumTo k (sizeAt s first) = omega (arith, w .total) in
-    rw (← ef, ← same, ← sum, ← w .place, ← el)
+    rw (← same, ← sum, ← w .place)
+
+pub walk-done : (s : List ℕ) (c : Cursor) (count : ℕ) (first : Cursor) (x : Summed) (last : Cursor) → first ≡ padded s c → x ≡ summed s first count → last ≡ padded s (x .at)
+    → _≡_ {A = Walk} (record { first = first; last = last; total = x .total }) (walked s c count)
+unfolding walked summed
+walk-done s c count first x last ef ex el = rw (el, ex, ef)
 
 -- the walk begun one size later
 cursor-later : (s : List ℕ) (c : Cursor) (k : ℕ) → cursorAt s c (suc k) ≡ cursorAt s (field s true (u32 sizeChoices) 0 c .next) k

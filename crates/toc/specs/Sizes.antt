@@ -6,14 +6,14 @@ use lib.ListN.{getD}
 use lib.Dec.{eqb}
 use Rattle.bits.specs.declared.Choices.{Choices}
 use Rattle.bits.specs.Refusals.{pick}
-use Rattle.bits.specs.Codec.{bool, u32, padding, plus}
+use Rattle.bits.specs.Codec.{bool, u32, padding, plus, oneOf}
 use Rattle.bits.specs.Table.{Table, ends, row, bind, within, times}
 use Rattle.order.specs.Tables.{tabulate}
 use Rattle.order.specs.Sums.{sumTo}
 
 -- U32(u(10), 1024 + u(14), 17408 + u(22), 4211712 + u(30))
 abbrev pub sizeChoices : Choices
-sizeChoices = record { d0 = plus 0 10; d1 = plus 1024 14; d2 = plus 17408 22; d3 = plus 4211712 30 }
+sizeChoices = oneOf (plus 0 10) (plus 1024 14) (plus 17408 22) (plus 4211712 30)
 
 -- the size that is sent as number k
 abbrev pub sizeRow : ℕ → Table (List ℕ) ℕ

@@ -1,15 +1,18 @@
 -- The walk over the sizes, one by one: what the private functions of the walk promise. That it is the table's own reading is a law.
-use Prim.Native.Nat.{ℕ, zero, suc, _+_, _/_, _%_, _^_}
+use Prim.Native.Nat.{ℕ, zero, suc, _+_, _≤_}
 use mathlib.Core.Path.{_≡_}
 use mathlib.Core.List.{List}
 use mathlib.Core.Bool.{Bool, true}
-use Rattle.bits.specs.declared.Choice.{Choice}
 use Rattle.bits.specs.declared.Cursor.{Cursor}
 use Rattle.bits.specs.declared.Field.{Field}
-use Rattle.bits.specs.Refusals.{start}
+use Rattle.bits.specs.declared.view.View.{View}
+use Rattle.bits.specs.declared.view.Seen.{Seen}
+use Rattle.bits.specs.Refusals.{pick, start}
+use Rattle.bits.specs.View.{seen, seenChoice}
 use Rattle.bits.specs.Codec.{u32, padding, chosen, field}
+use Rattle.order.specs.Tables.{identity}
 use Rattle.order.specs.Sums.{sumTo}
-use Rattle.toc.specs.declared.reading.Sized.{Sized}
+use Rattle.toc.specs.declared.reading.Summed.{Summed}
 use Rattle.toc.specs.declared.reading.Pair.{Pair}
 use Rattle.toc.specs.declared.reading.Walk.{Walk}
 use Rattle.toc.specs.Sizes.{sizeChoices}
@@ -27,11 +30,9 @@ sizeAt s c k = field s true (u32 sizeChoices) 0 (cursorAt s c k) .value
 unfoldable pub offsetAt : List ℕ → Cursor → ℕ → ℕ → ℕ
 offsetAt s c start k = start + sumTo k (sizeAt s c)
 
--- the size that begins at the lowest of bits that are known, and how many it takes
-unfoldable pub sizeIn : ℕ → Sized
-sizeIn w =
-    let ch : Choice = chosen sizeChoices (w % 4) in
-    record { value = ch .base + w / 4 % 2 ^ ch .bits; width = 2 + ch .bits }
+-- a size out of bits that are known
+unfoldable pub seenSize : View → Seen
+seenSize w = seenChoice (seen w true 2) (chosen sizeChoices (seen w true 2 .value))
 
 -- two sizes that were read at once: those that are read one after the other
 pub record Two (s : List ℕ) (c : Cursor) (on : Bool) (p : Pair) : Type 0 where
@@ -43,9 +44,25 @@ pub record Two (s : List ℕ) (c : Cursor) (on : Bool) (p : Pair) : Type 0 where
 abbrev pub padded : List ℕ → Cursor → Cursor
 padded s c = field s true padding 0 c .next
 
+-- the walk over the sizes alone: where it ends, and their sum
+unfoldable pub summed : List ℕ → Cursor → ℕ → Summed
+summed s c count = record { at = cursorAt s c count; total = sumTo count (sizeAt s c) }
+
+-- between its two paddings
 unfoldable pub walked : List ℕ → Cursor → ℕ → Walk
 walked s c count = record {
   first = padded s c;
   last = padded s (cursorAt s (padded s c) count);
   total = sumTo count (sizeAt s (padded s c));
 }
+
+-- four tables that each have a word for each section
+pub record Room (count o s p i : ℕ) : Type 0 where
+  pub offsets : count ≤ o
+  pub sizes : count ≤ s
+  pub order : count ≤ p
+  pub inverse : count ≤ i
+
+-- the order that is lent, or the identity
+abbrev pub orderBy : Bool → List ℕ → ℕ → List ℕ
+orderBy given lent count = pick given lent (identity count)

@@ -3,21 +3,23 @@
 use crate::Toc;
 use crate::TocRead;
 use bits::Choice;
-use bits::Choices;
 use bits::Cursor;
 use bits::Field;
 use bits::Refusal;
+use bits::Seen;
+use bits::View;
 use grid::Frame;
 use grid::Grid;
 ghost use mathlib.Core.Path.{_≡_};
-ghost use Rattle.toc.specs.Reading.{Done, tables, roomFor, judgedBy, firstReading, secondReading};
+ghost use Rattle.toc.specs.Reading.{Done, tables, roomFor, judgedBy, sizedReading, firstReading, secondReading};
 ghost use mathlib.Core.Bool.{true, false};
 ghost use Prim.Native.Nat.{_+_, _≤_, _<_};
-ghost use lib.ListN.{length, set, take};
+ghost use lib.ListN.{length, take};
 ghost use Rattle.bits.specs.Codec.{u32, chosen, field};
-ghost use Rattle.order.specs.Tables.{placedBy};
+ghost use Rattle.order.specs.Order.{isOrder};
+ghost use Rattle.order.specs.Tables.{inverseOf, filled, placedBy};
 ghost use Rattle.toc.specs.Sizes.{sizeChoices};
-ghost use Rattle.toc.specs.Walks.{walked, sizeAt, offsetAt, sizeIn, Two};
+ghost use Rattle.toc.specs.Walks.{summed, walked, sizeAt, offsetAt, seenSize, Two, Room, orderBy};
 
 // Whether each of four tables has a word for each section.
 fn has_room(count: u32, offsets: usize, sizes: usize, order: usize, inverse: usize) -> bool
@@ -61,30 +63,16 @@ struct Walk {
 fn read_size(s: &[u8], c: Cursor) -> Field
     ensures { λ r. ⌜ r ≡ field (now (s .entry)) true (u32 sizeChoices) 0 c ⌝ }
 {
-    let d = Choices {
-        d0: Choice { base: 0, bits: 10 },
-        d1: Choice {
-            base: 1024,
-            bits: 14,
-        },
-        d2: Choice {
-            base: 17408,
-            bits: 22,
-        },
-        d3: Choice {
-            base: 4211712,
-            bits: 30,
-        },
-    };
+    let d = bits::one_of(0, 10, 1024, 14, 17408, 22, 4211712, 30);
     numbers::read_u32(s, c, d)
 }
 
-// How many bits a size takes by its selector, which counts: 12, 16, 24 or 32, a byte each in one number.
-fn size_width(k: u32) -> u32
+// How many bits stand behind a size's selector: 10, 14, 22 or 30, a byte each in one number.
+fn size_bits(k: u32) -> u32
     requires { ⌜ k < 4 ⌝ }
-    ensures { λ r. ⌜ r ≡ 2 + chosen sizeChoices k .bits ⌝ }
+    ensures { λ r. ⌜ r ≡ chosen sizeChoices k .bits ⌝ }
 {
-    let widths: u32 = 538447884;
+    let widths: u32 = 504761866;
     (widths >> (8 * k)) & 255
 }
 
@@ -100,22 +88,14 @@ fn size_base(k: u32) -> u32
     if k == 2 { 17408 } else { 4211712 }
 }
 
-// A size and how many bits it takes.
-struct Sized {
-    value: u32,
-    width: u32,
-}
-
-// The size that begins at the lowest of bits that are known.
-fn size_in(w: u64) -> Sized
-    ensures { λ r. ⌜ r ≡ sizeIn w ⌝ }
+// A size out of bits that are known.
+fn see_size(w: View) -> Seen
+    ensures { λ r. ⌜ r ≡ seenSize w ⌝ }
 {
-    let k = bits::low_bits(w, 2);
-    let width = size_width(k);
-    Sized {
-        value: size_base(k) + bits::low_bits(w >> 2, width - 2),
-        width,
-    }
+    let k = bits::see(w, true, 2);
+    let base = size_base(k.value);
+    let width = size_bits(k.value);
+    bits::see_choice(k, Choice { base, bits: width })
 }
 
 // Two sizes that follow each other, if they could be read at once, and the place behind them.
@@ -146,26 +126,32 @@ fn read_pair(s: &[u8], c: Cursor, on: bool) -> Pair
         return no_pair(at);
     }
     let a = bits::look_ahead(s, at);
-    let x = size_in(a.bits);
-    let y = size_in(a.bits >> x.width);
-    let width = x.width + y.width;
-    if !bits::both(a.whole, width <= 56) {
+    let x = see_size(View { bits: a.bits, at });
+    let y = see_size(x.rest);
+    let rest = y.rest;
+    let end = rest.at;
+    if !bits::both(a.whole, std::num::wrapping_sub_u64(end, at) <= 56) {
         return no_pair(at);
     }
     Pair {
         there: true,
         first: x.value,
         second: y.value,
-        at: at + (width as u64),
+        at: end,
     }
 }
 
-// Padding, count sizes, padding: read and summed, nothing kept.
-fn walk_sizes(s: &[u8], c: Cursor, count: u32) -> Walk
-    ensures { λ r. ⌜ r ≡ walked (now (s .entry)) c count ⌝ }
+// What a walk over sizes comes to: the cursor behind them, and their sum.
+struct Summed {
+    at: Cursor,
+    total: u64,
+}
+
+// count sizes: read and summed, nothing kept.
+fn sum_sizes(s: &[u8], c: Cursor, count: u32) -> Summed
+    ensures { λ r. ⌜ r ≡ summed (now (s .entry)) c count ⌝ }
 {
-    let first = bits::zero_pad_to_byte(s, c);
-    let mut at = first;
+    let mut at = c;
     let mut total: u64 = 0;
     let mut k: u32 = 0;
     while k < count {
@@ -182,24 +168,20 @@ fn walk_sizes(s: &[u8], c: Cursor, count: u32) -> Walk
             k += 1;
         }
     }
-    let last = bits::zero_pad_to_byte(s, at);
-    Walk { first, last, total }
+    Summed { at, total }
 }
 
-// The word at an index becomes v, if the table has it.
-fn put_offset(table: &mut [u64], at: usize, v: u64)
-    ensures { λ _. ⌜ now (table .exit) ≡ set (now (table .entry)) at v ⌝ }
+// Padding, count sizes, padding.
+fn walk_sizes(s: &[u8], c: Cursor, count: u32) -> Walk
+    ensures { λ r. ⌜ r ≡ walked (now (s .entry)) c count ⌝ }
 {
-    if at < table.len() {
-        table[at] = v;
-    }
-}
-
-fn put_size(table: &mut [u32], at: usize, v: u32)
-    ensures { λ _. ⌜ now (table .exit) ≡ set (now (table .entry)) at v ⌝ }
-{
-    if at < table.len() {
-        table[at] = v;
+    let first = bits::zero_pad_to_byte(s, c);
+    let x = sum_sizes(s, first, count);
+    let last = bits::zero_pad_to_byte(s, x.at);
+    Walk {
+        first,
+        last,
+        total: x.total,
     }
 }
 
@@ -228,23 +210,75 @@ fn fill_sizes(
         let section = inverse[i] as usize;
         if p.there {
             let other = inverse[i + 1] as usize;
-            put_offset(offsets, section, offset);
-            put_size(sizes, section, p.first);
+            fill::put_u64(offsets, section, offset);
+            fill::put_u32(sizes, section, p.first);
             offset += p.first as u64;
-            put_offset(offsets, other, offset);
-            put_size(sizes, other, p.second);
+            fill::put_u64(offsets, other, offset);
+            fill::put_u32(sizes, other, p.second);
             offset += p.second as u64;
             at = bits::begin(p.at);
             k += 2;
         } else {
             let x = read_size(s, at);
-            put_offset(offsets, section, offset);
-            put_size(sizes, section, x.value);
+            fill::put_u64(offsets, section, offset);
+            fill::put_u32(sizes, section, x.value);
             at = x.next;
             offset += x.value as u64;
             k += 1;
         }
     }
+}
+
+// The two orders of a table: the lent one and its inverse, or the identity twice.
+fn put_orders(given: bool, lent: &[u32], count: u32, order: &mut [u32], inverse: &mut [u32])
+    requires { ⌜ (isOrder count (orderBy given (now lent) count) ≡ true) × (count ≤ length (now inverse)) ⌝ }
+    ensures { λ _. ⌜
+        (now (order .exit) ≡ filled (orderBy given (now (lent .entry)) count) (now (order .entry)))
+        × (now (inverse .exit) ≡ filled (inverseOf count (orderBy given (now (lent .entry)) count)) (now (inverse .entry)))
+        ⌝ }
+{
+    if given {
+        order::order_into(lent, count, order);
+        order::inverse_into(lent, count, inverse);
+    } else {
+        order::identity_into(order, count);
+        order::identity_into(inverse, count);
+    }
+}
+
+// From the padding on, with an order that is known to be one: the walk that judges, then the four tables.
+fn read_sizes(
+    s: &[u8],
+    c: Cursor,
+    count: u32,
+    given: bool,
+    lent: &[u32],
+    offsets: &mut [u64],
+    sizes: &mut [u32],
+    order: &mut [u32],
+    inverse: &mut [u32],
+) -> TocRead
+    requires { ⌜ (isOrder count (orderBy given (now lent) count) ≡ true) × Room count (length (now offsets)) (length (now sizes)) (length (now order)) (length (now inverse)) ⌝ }
+    ensures { λ r. ⌜
+        Done (sizedReading (now (s .entry)) c count (orderBy given (now (lent .entry)) count))
+        (tables (now (offsets .entry)) (now (sizes .entry)) (now (order .entry)) (now (inverse .entry)))
+        r (now (offsets .exit)) (now (sizes .exit)) (now (order .exit)) (now (inverse .exit))
+        ⌝ }
+{
+    let w = walk_sizes(s, c, count);
+    let last = w.last;
+    let fault = last.fault;
+    if fault.number != 0 {
+        return TocRead::Refused(fault);
+    }
+    let start = last.at / 8;
+    put_orders(given, lent, count, order, inverse);
+    fill_sizes(s, w.first, start, count, inverse, offsets, sizes);
+    TocRead::Table(Toc {
+        count,
+        bookmark: start,
+        total_byte_size: w.total,
+    })
 }
 
 // First entry: the permuted flag; if 0, the sizes, and both orders are the identity; if 1, "order needed" with the next place.
@@ -281,21 +315,8 @@ pub fn read_toc(
     if flag.value != 0 {
         return TocRead::OrderNeeded(next.at);
     }
-    let w = walk_sizes(s, next, count);
-    let last = w.last;
-    let fault = last.fault;
-    if fault.number != 0 {
-        return TocRead::Refused(fault);
-    }
-    let start = last.at / 8;
-    order::identity_into(order, count);
-    order::identity_into(inverse, count);
-    fill_sizes(s, w.first, start, count, inverse, offsets, sizes);
-    TocRead::Table(Toc {
-        count,
-        bookmark: start,
-        total_byte_size: w.total,
-    })
+    let none = [0u32; 1];
+    read_sizes(s, next, count, false, &none, offsets, sizes, order, inverse)
 }
 
 // Second entry: a place and a lent order (13 where it is none), on from the padding; the order and its inverse are written.
@@ -332,19 +353,15 @@ pub fn read_toc_with_order(
     if bad.number != 0 {
         return TocRead::Refused(bad);
     }
-    let walk = walk_sizes(s, bits::begin(place), count);
-    let last = walk.last;
-    let fault = last.fault;
-    if fault.number != 0 {
-        return TocRead::Refused(fault);
-    }
-    let start = last.at / 8;
-    order::order_into(lent, count, order);
-    order::inverse_into(lent, count, inverse);
-    fill_sizes(s, walk.first, start, count, inverse, offsets, sizes);
-    TocRead::Table(Toc {
+    read_sizes(
+        s,
+        bits::begin(place),
         count,
-        bookmark: start,
-        total_byte_size: walk.total,
-    })
+        true,
+        lent,
+        offsets,
+        sizes,
+        order,
+        inverse,
+    )
 }
