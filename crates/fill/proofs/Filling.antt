@@ -4,11 +4,11 @@ use native.Mathlib.Omega.{arith}
 use native.Mathlib.Nat.{add-zero, add-suc}
 use native.Mathlib.Numerals.{add-one}
 use mathlib.Core.Path.{_≡_, refl, sym, _∙_, ap}
-use mathlib.Core.Logic.{by-cases}
+use mathlib.Core.Logic.{by-cases, _⊎_, inl, inr}
 use mathlib.Core.List.{List, [], _∷_}
-use native.Mathlib.Decide.{decLe}
+use native.Mathlib.Decide.{decLe, ℕ-discrete}
 use lib.ListN.{length, set, getD, drop, length-set}
-use lib.Seq.{sets, set-out, drop-cons, drop-length}
+use lib.Seq.{sets, set-out, getD-set-same, getD-set-other, drop-cons, drop-length}
 
 -- places behind the end are passed over
 pub sets-past : {A : Type 0} (l vs : List A) (k : ℕ) → length l ≤ k → sets l k vs ≡ l
@@ -16,6 +16,24 @@ sets-past l [] k h = refl
 sets-past l (v ∷ vs) k h =
     let same : set l k v ≡ l = set-out l k v h in
     rw same (sets-past l vs (suc k) (omega arith))
+
+-- a place outside those that are put keeps its value, and one inside has the new one
+pub sets-outside : {A : Type 0} (d : A) (vs l : List A) (i k : ℕ) → (k < i) ⊎ (i + length vs ≤ k) → getD (sets l i vs) k d ≡ getD l k d
+sets-outside d [] l i k h = refl
+sets-outside d (v ∷ vs) l i k (inl h) = sets-outside d vs (set l i v) (suc i) k (inl (omega arith)) ∙ getD-set-other l i k v d (λ e. omega arith)
+sets-outside d (v ∷ vs) l i k (inr h) = sets-outside d vs (set l i v) (suc i) k (inr (omega arith)) ∙ getD-set-other l i k v d (λ e. omega arith)
+
+pub sets-inside : {A : Type 0} (d : A) (vs l : List A) (i k : ℕ) → i ≤ k → k < i + length vs → k < length l → getD (sets l i vs) k d ≡ getD vs (k - i) d
+sets-inside d [] l i k low high room = absurd (omega arith)
+sets-inside d (v ∷ vs) l i k low high room =
+    by-cases (ℕ-discrete k i)
+    (λ e.
+    let here : getD (set l i v) k d ≡ v = ap (λ (j : ℕ). getD (set l i v) j d) e ∙ getD-set-same l i v d (omega (arith, e)) in
+    let first : k - i ≡ 0 = omega (arith, e) in
+    sets-outside d vs (set l i v) (suc i) k (inl (omega (arith, e))) ∙ here ∙ ap (λ (j : ℕ). getD (v ∷ vs) j d) (sym first))
+    (λ e.
+    let later : k - i ≡ suc (k - suc i) = omega (arith, e) in
+    sets-inside d vs (set l i v) (suc i) k (omega (arith, e)) (omega arith) (omega (arith, length-set l i v)) ∙ ap (λ (j : ℕ). getD (v ∷ vs) j d) (sym later))
 
 -- rest is still to be put into out, from k on
 pub record Filling {A : Type 0} (before : List A) (at : ℕ) (all out : List A) (k : ℕ) (rest : List A) : Type 0 where
@@ -41,13 +59,12 @@ module _ {A : Type 0} (before : List A) (at : ℕ) (all : List A) where
 pub record Values {A : Type 0} (before : List A) (at : ℕ) (values : List A) (end : ℕ) (out : List A) (i : ℕ) : Type 0 where
   pub filling : Filling before at values out (at + i) (drop i values)
   pub end-is : end ≡ min (length values) (length before - at)
-  pub room : at < length before
   pub low : i ≤ end
   pub size : length out ≡ length before
 
 module _ {A : Type 0} (d : A) (before : List A) (at : ℕ) (values : List A) (end : ℕ) where
-  pub values-none : end ≡ min (length values) (length before - at) → at < length before → Values before at values end before 0
-  values-none e h = record { filling = rw add-zero (filling-none before at values); end-is = e; room = h; low = omega arith; size = refl }
+  pub values-none : end ≡ min (length values) (length before - at) → Values before at values end before 0
+  values-none e = record { filling = rw add-zero (filling-none before at values); end-is = e; low = omega arith; size = refl }
 
   module _ (out : List A) (i : ℕ) (f : Values before at values end out i) where
     pub values-more : i < end → (v : A) → v ≡ getD values i d → Values before at values end (set out (at + i) v) (i + 1)
@@ -56,7 +73,7 @@ module _ {A : Type 0} (d : A) (before : List A) (at : ℕ) (values : List A) (en
         let one : drop i values ≡ v ∷ drop (i + 1) values = drop-cons values i d below ∙ rw (ev, add-one) in
         let next : at + i + 1 ≡ at + (i + 1) = omega arith in
         let more = filling-more before at values out (at + i) v (drop (i + 1) values) (set out (at + i) v) (rw one at (f .filling)) refl in
-        record { filling = rw next at more; end-is = f .end-is; room = f .room; low = omega arith; size = more .size }
+        record { filling = rw next at more; end-is = f .end-is; low = omega arith; size = more .size }
 
     -- all are put, or the slice is full
     pub values-all : end ≤ i → out ≡ sets before at values
@@ -66,4 +83,4 @@ module _ {A : Type 0} (d : A) (before : List A) (at : ℕ) (values : List A) (en
         let all : i ≡ length values = omega (arith, y, f .end-is, f .low) in
         let none : drop i values ≡ [] = rw (all, drop-length) in
         filling-all before at values out (at + i) (rw none at (f .filling)))
-        (λ y. filling-full before at values out (at + i) (drop i values) (f .filling) (omega (arith, y, f .end-is, f .room, f .low, f .size)))
+        (λ y. filling-full before at values out (at + i) (drop i values) (f .filling) (omega (arith, y, f .end-is, f .low, f .size)))

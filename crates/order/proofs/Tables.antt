@@ -1,13 +1,14 @@
 -- Laws of tables: words computed one after the other, and a lent table whose first words are new.
-use Prim.Native.Nat.{ℕ, zero, suc, _+_, _-_, _≤_, _<_, min}
+use Prim.Native.Nat.{ℕ, zero, suc, _+_, _-_, _≤_, _<_}
 use native.Mathlib.Omega.{arith}
 use native.Mathlib.Nat.{not-suc-le-zero, le-of-suc-le-suc}
-use native.Mathlib.Decide.{decLe, ℕ-discrete}
+use native.Mathlib.Decide.{decLe}
 use mathlib.Core.Path.{_≡_, refl, sym, _∙_, ap}
-use mathlib.Core.Logic.{by-cases}
+use mathlib.Core.Logic.{by-cases, inr}
 use mathlib.Core.List.{List, _++_}
-use lib.ListN.{length, getD, set, take, drop, length-append, length-take, length-drop, length-set, List·getD-append}
-use lib.Seq.{getD-append-add, getD-drop, getD-take, getD-set-same, getD-set-other, take-all, take-nil, length-take-le, ext-getD}
+use lib.ListN.{length, getD, take, drop, length-append, length-take, length-drop, List·getD-append}
+use lib.Seq.{sets, length-sets, getD-append-add, getD-drop, getD-take, take-all, ext-getD}
+use Rattle.fill.proofs.Filling.{sets-inside, sets-outside}
 use Rattle.order.specs.Tables.{tabulate, filled}
 
 -- two tables of count words that agree at each
@@ -66,46 +67,9 @@ module _ (new table : List ℕ) where
       (λ y. front i y h ∙ sym (filled-at i y h))
       (λ y. behind i (omega (arith, y)) h ∙ sym (filled-behind i (omega (arith, y)) h)))
 
--- a table in which the first i of the words have been written
-pub record Written (words before table : List ℕ) (i : ℕ) : Type 0 where
-  pub within : i ≤ length words
-  pub room : i ≤ length before
-  pub size : length table ≡ length before
-  pub content : table ≡ filled (take i words) before
-
-pub written-none : (words before : List ℕ) → Written words before before 0
-unfolding filled
-written-none words before =
-    record { within = omega arith; room = omega arith; size = refl; content = sym (ap (λ (l : List ℕ). l ++ before) (take-nil (length before))) }
-
-module _ (words before table : List ℕ) (i : ℕ) (w : Written words before table i) where
-  pub written-more : (v : ℕ) → i < length words → i < length table → v ≡ getD words i 0 → Written words before (set table i v) (i + 1)
-  written-more v h k e =
-      let taken : length (take i words) ≡ i = length-take-le i words (w .within) in
-      let more : length (take (i + 1) words) ≡ i + 1 = length-take-le (i + 1) words (omega arith) in
-      let same : getD (set table i v) i 0 ≡ v = getD-set-same table i v 0 k in
-      let other : (j : ℕ) → (j ≡ i → ⊥) → getD (set table i v) j 0 ≡ getD (filled (take i words) before) j 0 =
-      λ j q. getD-set-other table i j v 0 q ∙ ap (λ (t : List ℕ). getD t j 0) (w .content) in
-      let size : length (set table i v) ≡ length before = length-set table i v ∙ w .size in
-      record {
-        within = omega arith;
-        room = omega (arith, w .size);
-        size = size;
-        content =
-            filled-by (take (i + 1) words) before (set table i v) size
-            (λ j hj kj.
-            by-cases (ℕ-discrete j i)
-            (λ q. ap (λ (n : ℕ). getD (set table i v) n 0) q ∙ same ∙ e ∙ sym (getD-take (i + 1) words i 0 (omega arith)) ∙ ap (λ (n : ℕ). getD (take (i + 1) words) n 0) (sym q))
-            (λ q.
-            other j q ∙ filled-at (take i words) before j (omega (arith, q)) kj ∙ getD-take i words j 0 (omega (arith, q)) ∙ sym (getD-take (i + 1) words j 0 (omega arith))))
-            (λ j hj kj. other j (λ q. omega arith) ∙ filled-behind (take i words) before j (omega arith) kj);
-      }
-
-  -- all are written, or the table is full
-  pub written-all : min (length words) (length before) ≤ i → table ≡ filled words before
-  written-all h =
-      let taken : length (take i words) ≡ i = length-take-le i words (w .within) in
-      w .content
-      ∙ filled-by words before (filled (take i words) before) (filled-length (take i words) before)
-      (λ j hj kj. filled-at (take i words) before j (omega arith) kj ∙ getD-take i words j 0 (omega arith))
-      (λ j hj kj. filled-behind (take i words) before j (omega arith) kj)
+-- values that are put from the first place on
+pub filled-sets : (new table : List ℕ) → sets table 0 new ≡ filled new table
+filled-sets new table =
+    filled-by new table (sets table 0 new) (length-sets table 0 new)
+    (λ i h k. let here : i - 0 ≡ i = omega arith in sets-inside 0 new table 0 i (omega arith) (omega arith) k ∙ ap (λ (j : ℕ). getD new j 0) here)
+    (λ i h k. sets-outside 0 new table 0 i (inr (omega arith)))

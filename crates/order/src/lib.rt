@@ -84,27 +84,15 @@ pub fn check_order(order: &[u32], count: u32) -> bits::Refusal
     }
 }
 
-// The word at an index becomes v, if the table has it.
-fn put(table: &mut [u32], at: usize, v: u32)
-    ensures { λ _. ⌜ now (table .exit) ≡ set (now (table .entry)) at v ⌝ }
-{
-    if at < table.len() {
-        table[at] = v;
-    }
-}
-
 // The first count words become 0, 1, 2, .., as far as the table goes: both orders of a table that is not permuted.
 pub fn identity_into(table: &mut [u32], count: u32)
     ensures { λ _. ⌜ now (table .exit) ≡ filled (identity count) (now (table .entry)) ⌝ }
 {
-    let mut k: u32 = 0;
-    while k < count {
-        let i = k as usize;
-        if table.len() <= i {
-            return;
-        }
-        table[i] = k;
-        k += 1;
+    let end = fill::least(count as usize, table.len());
+    let mut i: usize = 0;
+    while i < end {
+        table[i] = i as u32;
+        i += 1;
     }
 }
 
@@ -112,18 +100,8 @@ pub fn identity_into(table: &mut [u32], count: u32)
 pub fn order_into(order: &[u32], count: u32, table: &mut [u32])
     ensures { λ _. ⌜ now (table .exit) ≡ filled (take count (now (order .entry))) (now (table .entry)) ⌝ }
 {
-    let end = count as usize;
-    let mut i: usize = 0;
-    while i < end {
-        if order.len() <= i {
-            return;
-        }
-        if table.len() <= i {
-            return;
-        }
-        table[i] = order[i];
-        i += 1;
-    }
+    let end = fill::least(count as usize, order.len());
+    fill::fill_u32(table, 0, &order[..end]);
 }
 
 // Each of the order's first count sections is written at its sent number: for an order that was checked, the inverse.
@@ -136,7 +114,7 @@ pub fn inverse_into(order: &[u32], count: u32, inverse: &mut [u32])
         if order.len() <= i {
             return;
         }
-        put(inverse, order[i] as usize, j);
+        fill::put_u32(inverse, order[i] as usize, j);
         j += 1;
     }
 }

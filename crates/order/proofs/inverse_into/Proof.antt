@@ -19,14 +19,14 @@ loop-holds c = placing-none _ (take (c .before .before .args .count) (c .before 
 returns : tie.Need-returns Inv-loop μ-loop
 returns c = placing-all _ (c .before .before .before .before .before .args .order .now) (c .before .before .before .before .before .args .count) _ _ _ (c .before .before .loop .inv) (omega arith)
 
-cast-put : tie.Need-cast-put Inv-loop μ-loop
+cast-put : tie.Need-cast-put-u32 Inv-loop μ-loop
 cast-put c = omega (arith, c .shared-slice-known2 .given (c .before .before .before .before .loop .j))
 
 loop-again : tie.Need-loop-again Inv-loop μ-loop
 loop-again c =
     placing-more _ (c .before .before .before .before .before .before .before .before .before .before .args .order .now) _ _ _ _
     (c .before .before .before .before .before .before .before .loop .inv) _ (c .before .before .before .before .before .before .loop-test .taken)
-    (c .before .before .before .before .before .if1 .left) (c .before .before .put .ensures)
+    (c .before .before .before .before .before .if1 .left) (c .before .before .put-u32 .ensures)
 
 returns-2 : tie.Need-returns-2 Inv-loop μ-loop
 returns-2 c = placing-all _ (c .before .before .before .before .args .order .now) (c .before .before .before .before .args .count) _ _ _ (c .before .loop .inv) (omega arith)
