@@ -1,5 +1,4 @@
 -- Laws that several proofs cite.
-pub mod Filling
 pub mod Answering
 pub mod Laying
 pub mod Wording

@@ -90,15 +90,6 @@ unfolding noRecord
 not-none n f = number (ltb 16777216 n) (badFacts f)
 
 -- a name buffer of fewer than 1,071 bytes is 3 in the same place
-short-name : (n : ℕ) (f : Facts) (name upsampling blending : ℕ) → name < 1071 → judged n f name upsampling blending ≡ noRecord n f
+pub short-name : (n : ℕ) (f : Facts) (name upsampling blending : ℕ) → name < 1071 → judged n f name upsampling blending ≡ noRecord n f
 unfolding judged noRecord
 short-name n f name upsampling blending h = rw (lt-ltb name 1071 h)
-
-pub no-record-is : (f : Facts) (s name name' upsampling upsampling' blending blending' : List ℕ) (a : HeaderAnswer) → length name < 1071
-    → Headed f s a name name' upsampling upsampling' blending blending' → a .refusal ≡ noRecord (length s) f
-unfolding refusedHeader
-no-record-is f s name name' upsampling upsampling' blending blending' a h headed =
-    ap (λ (x : HeaderAnswer). x .refusal)
-    (headed .answer
-    ∙ ap (λ (r : Refusal). answered f r (stands f s)) (short-name (length s) f (length name) (length upsampling) (length blending) h)
-    ∙ refused-by f (noRecord (length s) f) (stands f s) (not-none (length s) f))

@@ -1,8 +1,6 @@
 // What every C function here ends with: the status word, and a record's words handed out where nothing is refused.
 use bits::Refusal;
 ghost use mathlib.Core.Path.{_≡_};
-ghost use lib.ListN.{length, set};
-ghost use lib.Seq.{sets};
 ghost use Rattle.c_words.specs.Status.{statusOf, isEarly, roomed};
 ghost use Rattle.c_words.specs.Answers.{Given, answer};
 
@@ -37,26 +35,6 @@ fn with_room(r: Refusal, short: bool) -> Refusal
     }
 }
 
-// A word at its place, where the slice has it.
-pub fn put_word(out: &mut [u64], k: usize, v: u64)
-    ensures { λ _. ⌜ now (out .exit) ≡ set (now (out .entry)) k v ⌝ }
-{
-    if k < out.len() {
-        out[k] = v;
-    }
-}
-
-// Words from the first place on.
-pub fn put_words(values: &[u64], out: &mut [u64])
-    ensures { λ _. ⌜ now (out .exit) ≡ sets (now (out .entry)) 0 (now (values .entry)) ⌝ }
-{
-    let mut i: usize = 0;
-    while i < values.len() {
-        put_word(out, i, values[i]);
-        i += 1;
-    }
-}
-
 // A record's words, unless it is refused or they have no room; and the status.
 pub fn give(r: Refusal, values: &[u64], out: &mut [u64]) -> u64
     ensures { λ a. ⌜ Given (answer r (now (values .entry))) (now (out .entry)) a (now (out .exit)) ⌝ }
@@ -65,6 +43,6 @@ pub fn give(r: Refusal, values: &[u64], out: &mut [u64]) -> u64
     if refusal.number != 0 {
         return status(refusal);
     }
-    put_words(values, out);
+    fill::fill_u64(out, 0, values);
     status(refusal)
 }

@@ -1,5 +1,4 @@
 // What the section entries come to: the status of what was read, and a table's three words.
-use crate::answers::put_words;
 use crate::answers::status;
 use bits::Refusal;
 use grid::Frame;
@@ -29,7 +28,7 @@ pub fn give_toc(t: TocRead, out: &mut [u64]) -> u64
     match t {
         TocRead::Table(toc) => {
             let words = [toc.count as u64, toc.bookmark, toc.total_byte_size];
-            put_words(&words, out);
+            fill::fill_u64(out, 0, &words);
             0
         }
         TocRead::OrderNeeded(place) => (place % 72057594037927936) * 256 + 255,

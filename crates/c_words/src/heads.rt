@@ -1,5 +1,4 @@
 // The header's record: numbers go into lent words, the two signed numbers and the floats into slices of their own types.
-use crate::answers::put_word;
 use crate::answers::status;
 use bits::Refusal;
 use filter::RestorationFilter;
@@ -11,9 +10,7 @@ use types::BlendMode;
 use types::Encoding;
 use types::FrameType;
 ghost use mathlib.Core.Path.{_≡_};
-ghost use Prim.Native.Nat.{_≤_};
-ghost use lib.ListN.{length, set};
-ghost use lib.Seq.{sets};
+ghost use lib.ListN.{length};
 ghost use Rattle.types.specs.Types.{frameTypeNumber, encodingNumber, blendModeNumber};
 ghost use Rattle.c_words.specs.Records.{bit};
 ghost use Rattle.c_words.specs.Heading.{recordRoom, frontWords, backWords, frontAfter, arraysAfter, wordsAfter, signedAfter, floatsAfter, noRecord, HandedOut};
@@ -56,47 +53,6 @@ fn bit(b: bool) -> u32
     ensures { λ r. ⌜ r ≡ bit b ⌝ }
 {
     if b { 1 } else { 0 }
-}
-
-// A value at its place, where the slice has it.
-fn put_float(out: &mut [f32], k: usize, v: f32)
-    ensures { λ _. ⌜ now (out .exit) ≡ set (now (out .entry)) k v ⌝ }
-{
-    if k < out.len() {
-        out[k] = v;
-    }
-}
-
-fn put_signed(out: &mut [i32], k: usize, v: i32)
-    ensures { λ _. ⌜ now (out .exit) ≡ set (now (out .entry)) k v ⌝ }
-{
-    if k < out.len() {
-        out[k] = v;
-    }
-}
-
-// Numbers from a place on.
-fn put_numbers(values: &[u32], at: usize, out: &mut [u64])
-    requires { ⌜ at ≤ 64 ⌝ }
-    ensures { λ _. ⌜ now (out .exit) ≡ sets (now (out .entry)) at (now (values .entry)) ⌝ }
-{
-    let mut i: usize = 0;
-    while i < values.len() {
-        put_word(out, at + i, values[i] as u64);
-        i += 1;
-    }
-}
-
-// Floats from a place on.
-fn put_floats(values: &[f32], at: usize, out: &mut [f32])
-    requires { ⌜ at ≤ 64 ⌝ }
-    ensures { λ _. ⌜ now (out .exit) ≡ sets (now (out .entry)) at (now (values .entry)) ⌝ }
-{
-    let mut i: usize = 0;
-    while i < values.len() {
-        put_float(out, at + i, values[i]);
-        i += 1;
-    }
 }
 
 // Words 2 to 11.
@@ -170,9 +126,9 @@ fn give_front(a: HeaderAnswer, out: &mut [u64])
     let h = a.header;
     let flags = h.flags;
     let front = front_words(h);
-    put_word(out, 0, a.end);
-    put_word(out, 1, flags.0);
-    put_numbers(&front, 2, out);
+    fill::put_u64(out, 0, a.end);
+    fill::put_u64(out, 1, flags.0);
+    fill::widen_u32(out, 2, &front);
 }
 
 // Words 12 to 32: the arrays.
@@ -182,10 +138,10 @@ fn give_arrays(jpeg: [u32; 3], passes: Passes, out: &mut [u64])
     let shift = passes.shift;
     let downsample = passes.downsample;
     let last_pass = passes.last_pass;
-    put_numbers(&jpeg, 12, out);
-    put_numbers(&shift, 15, out);
-    put_numbers(&downsample, 25, out);
-    put_numbers(&last_pass, 29, out);
+    fill::widen_u32(out, 12, &jpeg);
+    fill::widen_u32(out, 15, &shift);
+    fill::widen_u32(out, 25, &downsample);
+    fill::widen_u32(out, 29, &last_pass);
 }
 
 // The record's words, all 51.
@@ -198,7 +154,7 @@ fn give_words(a: HeaderAnswer, out: &mut [u64])
     let back = back_words(h);
     give_front(a, out);
     give_arrays(jpeg, passes, out);
-    put_numbers(&back, 33, out);
+    fill::widen_u32(out, 33, &back);
 }
 
 // The filters' values: six weights, eight sharpness values, three channel scales, four sigma values and the modular sigma.
@@ -219,10 +175,10 @@ fn give_floats(f: RestorationFilter, out: &mut [f32])
         sigma.border_sad_mul,
         params.sigma_for_modular,
     ];
-    put_floats(&weights, 0, out);
-    put_floats(&sharp, 6, out);
-    put_floats(&scale, 14, out);
-    put_floats(&last, 17, out);
+    fill::fill_f32(out, 0, &weights);
+    fill::fill_f32(out, 6, &sharp);
+    fill::fill_f32(out, 14, &scale);
+    fill::fill_f32(out, 17, &last);
 }
 
 // Whether the record's three slices are long enough.
@@ -236,19 +192,15 @@ pub fn has_room(words: usize, signed: usize, floats: usize) -> bool
 fn give_signed(h: FrameHeader, out: &mut [i32])
     ensures { λ _. ⌜ now (out .exit) ≡ signedAfter h (now (out .entry)) ⌝ }
 {
-    put_signed(out, 0, h.x0);
-    put_signed(out, 1, h.y0);
+    fill::put_i32(out, 0, h.x0);
+    fill::put_i32(out, 1, h.y0);
 }
 
-// What is refused where one of the record's slices is too short: 2, 1, 3. The entry says it of a name buffer of one byte.
+// What is refused where one of the record's slices is too short: 2, 1, 3.
 pub fn no_record(s: &[u8], f: Facts) -> Refusal
     ensures { λ r. ⌜ r ≡ noRecord (length (now (s .entry))) f ⌝ }
 {
-    let mut name = [0u8; 1];
-    let mut upsampling = [0u32; 1];
-    let mut blending = [0u32; 1];
-    let a = header::read_frame_header(s, f, &mut name, &mut upsampling, &mut blending);
-    a.refusal
+    header::judge_header(s.len(), f, 0, 0, 0)
 }
 
 // The record, unless it is refused.

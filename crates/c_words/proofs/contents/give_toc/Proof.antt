@@ -6,7 +6,7 @@ use Rattle.c_words.proofs.contents.give_toc.Statement.{statement}
 use Rattle.c_words.proofs.contents.give_toc.Tie as tie
 
 returns : tie.Need-returns
-returns c = (sym (ap tocStatus (c .before .before .before .before .before .before .before .t .given .1)), c .before .before .put-words .ensures ∙ sym (ap (λ t. tocAfter t (c .before .before .before .before .before .before .before .before .before .before .args .out .now)) (c .before .before .before .before .before .before .before .t .given .1)))
+returns c = (sym (ap tocStatus (c .before .before .before .before .before .before .before .t .given .1)), c .before .before .fill-u64 .ensures ∙ sym (ap (λ t. tocAfter t (c .before .before .before .before .before .before .before .before .before .before .args .out .now)) (c .before .before .before .before .before .before .before .t .given .1)))
 
 returns-2 : tie.Need-returns-2
 returns-2 c = (sym (ap tocStatus (c .before .t2 .given .1)), sym (ap (λ t. tocAfter t (c .before .before .before .before .args .out .now)) (c .before .t2 .given .1)))

@@ -7,7 +7,7 @@ use Rattle.c_words.proofs.heads.give_arrays.Tie as tie
 
 returns : tie.Need-returns
 unfolding arraysAfter
-returns c = four-put 12 15 25 29 (c .before .before .before .before .before .before .before .before .before .before .before .before .before .before .before .before .before .before .before .before .before .before .before .before .args .t1) (c .before .before .before .before .before .before .before .before .before .before .before .before .before .before .before .before .before .before .before .before .before .before .before .before .args .passes .shift) (c .before .before .before .before .before .before .before .before .before .before .before .before .before .before .before .before .before .before .before .before .before .before .before .before .args .passes .downsample) (c .before .before .before .before .before .before .before .before .before .before .before .before .before .before .before .before .before .before .before .before .before .before .before .before .args .passes .«last_pass») (c .before .before .before .before .before .before .before .before .before .before .before .before .before .before .before .before .before .before .before .before .before .before .before .before .args .out .now) _ _ _ _ (c .before .before .before .before .before .before .before .before .before .before .before .before .before .before .before .before .before .put-numbers .ensures) (c .before .before .before .before .before .before .before .before .before .before .before .before .put-numbers2 .ensures) (c .before .before .before .before .before .before .before .put-numbers3 .ensures) (c .before .before .put-numbers4 .ensures)
+returns c = four-put 12 15 25 29 (c .before .before .before .before .before .before .before .before .before .before .before .before .before .before .before .before .before .before .before .before .before .before .before .before .args .t1) (c .before .before .before .before .before .before .before .before .before .before .before .before .before .before .before .before .before .before .before .before .before .before .before .before .args .passes .shift) (c .before .before .before .before .before .before .before .before .before .before .before .before .before .before .before .before .before .before .before .before .before .before .before .before .args .passes .downsample) (c .before .before .before .before .before .before .before .before .before .before .before .before .before .before .before .before .before .before .before .before .before .before .before .before .args .passes .«last_pass») (c .before .before .before .before .before .before .before .before .before .before .before .before .before .before .before .before .before .before .before .before .before .before .before .before .args .out .now) _ _ _ _ (c .before .before .before .before .before .before .before .before .before .before .before .before .before .before .before .before .before .widen-u32 .ensures) (c .before .before .before .before .before .before .before .before .before .before .before .before .widen-u322 .ensures) (c .before .before .before .before .before .before .before .widen-u323 .ensures) (c .before .before .widen-u324 .ensures)
 
 pub give-arrays-spec : {M : Type 1} → statement M
 give-arrays-spec =

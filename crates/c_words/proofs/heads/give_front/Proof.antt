@@ -5,7 +5,7 @@ use Rattle.c_words.proofs.heads.give_front.Statement.{statement}
 use Rattle.c_words.proofs.heads.give_front.Tie as tie
 
 returns : tie.Need-returns
-returns c = front-put (c .before .before .before .before .before .before .before .before .before .before .before .before .before .before .before .before .before .args .a) _ (c .before .before .before .before .before .before .before .before .before .before .before .before .before .before .before .before .before .args .out .now) _ _ _ (c .before .before .before .before .before .before .before .before .before .before .before .before .before .front-words .ensures) (c .before .before .before .before .before .before .before .before .before .before .before .put-word .ensures) (c .before .before .before .before .before .before .before .put-word2 .ensures) (c .before .before .put-numbers .ensures)
+returns c = front-put (c .before .before .before .before .before .before .before .before .before .before .before .before .before .before .before .before .before .args .a) _ (c .before .before .before .before .before .before .before .before .before .before .before .before .before .before .before .before .before .args .out .now) _ _ _ (c .before .before .before .before .before .before .before .before .before .before .before .before .before .front-words .ensures) (c .before .before .before .before .before .before .before .before .before .before .before .put-u64 .ensures) (c .before .before .before .before .before .before .before .put-u642 .ensures) (c .before .before .widen-u32 .ensures)
 
 pub give-front-spec : {M : Type 1} → statement M
 give-front-spec =

@@ -7,7 +7,7 @@ use Rattle.c_words.proofs.heads.give_signed.Statement.{statement}
 use Rattle.c_words.proofs.heads.give_signed.Tie as tie
 
 returns : tie.Need-returns
-returns c = signed-are (c .before .before .before .before .before .before .before .before .args .h) _ _ (c .before .before .before .before .before .before .before .before .args .out .now) _ _ (toZ-ofZ w32 (c .before .before .before .before .before .before .before .before .args .h .x0) (record { sfits = c .before .before .before .before .before .before .struct-told .given .1 .1 .1 .1 .1 .1 .1 .1 .1 .1 .1 .1 .1 .0 .1 })) (toZ-ofZ w32 (c .before .before .before .before .before .before .before .before .args .h .y0) (record { sfits = c .before .before .struct-told2 .given .1 .1 .1 .1 .1 .1 .1 .1 .1 .1 .1 .1 .1 .1 .0 .1 })) (c .before .before .before .before .before .put-signed .ensures) (c .before .put-signed2 .ensures)
+returns c = signed-are (c .before .before .before .before .before .before .before .before .args .h) _ _ (c .before .before .before .before .before .before .before .before .args .out .now) _ _ (toZ-ofZ w32 (c .before .before .before .before .before .before .before .before .args .h .x0) (record { sfits = c .before .before .before .before .before .before .struct-told .given .1 .1 .1 .1 .1 .1 .1 .1 .1 .1 .1 .1 .1 .0 .1 })) (toZ-ofZ w32 (c .before .before .before .before .before .before .before .before .args .h .y0) (record { sfits = c .before .before .struct-told2 .given .1 .1 .1 .1 .1 .1 .1 .1 .1 .1 .1 .1 .1 .1 .0 .1 })) (c .before .before .before .before .before .put-i32 .ensures) (c .before .put-i322 .ensures)
 
 pub give-signed-spec : {M : Type 1} → statement M
 give-signed-spec =
