@@ -2,11 +2,14 @@
 """Holds docs/PROMISES.md to what the prover said of the wrong programs. Run it at the project's root after `rt ci` (or `rt must-fail`), which
 leaves a log of each edit under target/must-fail/.
 
-For every row of a table of PROMISES.md whose last column names edits: each edit stands under must-fail/ of that crate, and each function of
-the first column is named as not proved by the logs of at least two of the row's edits (a function that rests on an edited one is not proved
-either, and counts). Every edit under must-fail/ stands in some row. An edit with a replacement in each of several functions is refused as soon
-as one of them is, so it names them (`refuses:`), and each has to be not proved by itself, not for resting on another. No edit may be refused
-because a proof names a call or a branch that the edit took away: that would say nothing of what it computes.
+An edit changes many functions at once: a caller is proved against what its callees promise, not against their code, so each changed function is
+refused for its own sake, whatever becomes of the others. The gate is content with one of them refused; so an edit names its functions (`refuses:`),
+and each has to be refused by itself: its own proof has an error at a fact (not at a law or a callee that was not admitted, and not at a name that
+the edit took away), or it has no proof file and the search closes one of its needs no longer.
+
+Then, for every row of a table of PROMISES.md that has a column of edits: each function of the first column is named by at least two edits of its
+crate in the gate, and refused by itself in both. --more looks at the edits under must-fail/more instead (see tools/more.py), which are only asked
+to be refused at a fact.
 """
 import glob
 import os
@@ -23,50 +26,56 @@ def rows():
             table = False
             continue
         cells = [c.strip() for c in re.split(r'(?<!\\)\|', line.strip().strip('|'))]
-        if 'edits' in cells[-1].lower():
+        if 'wrong' in cells[-1].lower():
             table = True
         elif table and not set(cells[0]) <= set('-'):
             yield crate, cells
 
 
+def refused(crate, text):
+    """The functions that are refused for their own sake, and those that are refused at a name."""
+    facts, names = set(), set()
+    for proof, error in re.findall(r'^\S+?/proofs/(\S+?)/Proof\.antt:\d+:\d+: error: (.*)', text, re.M):
+        function = proof.split('/')[-1]
+        if 'was not admitted' in error:
+            continue
+        (names if re.search('that can be named from here|has no field', error) else facts).add(function)
+    for path, rest in re.findall(rf'^fn {crate}::(\S+): no proof: (.*)', text, re.M):
+        if 'does not close' in rest:
+            facts.add(path.split('::')[-1])
+    return facts, names - facts
+
+
 def main():
-    wrong, named, functions = [], set(), 0
-    for crate, cells in rows():
-        edits = [f'{crate}/{e}' for e in re.findall(r'[a-z0-9_]*_[a-z0-9_]+', re.sub(r'\([^)]*\)', '', cells[-1]))]
-        edits = [e for e in edits if os.path.exists(f'crates/{e.split("/")[0]}/must-fail/{e.split("/")[1]}.edit') or wrong.append(f'{e}: no such edit')]
-        named |= set(edits)
+    more = '--more' in sys.argv
+    wrong, by, edits = [], {}, 0
+    for path in sorted(glob.glob('crates/*/must-fail/more/*.edit' if more else 'crates/*/must-fail/*.edit')):
+        crate, name = path.split('/')[1], os.path.basename(path)[:-5]
+        edits += 1
+        log = f'target/{"more" if more else "must-fail"}/{crate}/{name}/.log'
+        if not os.path.exists(log):
+            wrong.append(f'{crate}/{name}: no log')
+            continue
+        text = open(log, encoding='utf-8').read()
+        facts, names = refused(crate, text)
+        laws = [e for e in re.findall(r'^\S+?/proofs/\w+\.antt:\d+:\d+: error: (.*)', text, re.M) if 'was not admitted' not in e]
+        for n in sorted(names):
+            wrong.append(f'{crate}/{name}: {n} is refused at a name, not at a fact')
+        if not facts and not laws:
+            wrong.append(f'{crate}/{name}: refused at no fact')
+        for function in ' '.join(re.findall(r'^refuses: (.*)', open(path, encoding='utf-8').read(), re.M)).split():
+            by.setdefault((crate, function), []).append(name)
+            if function not in facts:
+                wrong.append(f'{crate}/{name}: {function} is not refused by itself')
+    functions = 0
+    for crate, cells in [] if more else rows():
         for function in re.findall(r'`(\w+)[^`]*`', cells[0]):
             functions += 1
-            refused = []
-            for e in edits:
-                log = f'target/must-fail/{e}/.log'
-                text = open(log, encoding='utf-8').read() if os.path.exists(log) else ''
-                if not text:
-                    wrong.append(f'{e}: no log')
-                if re.search(rf'^fn {crate}::(?:\w+::)*{function}: (?:not proved|no proof)', text, re.M):
-                    refused.append(e)
-            if len(refused) < 2:
-                wrong.append(f'{crate}::{function}: not proved under {len(refused)} edits of {", ".join(edits) or "none"}')
-    for path in sorted(glob.glob('crates/*/must-fail/*.edit')):
-        _, crate, _, name = path.split('/')
-        if f'{crate}/{name[:-5]}' not in named:
-            wrong.append(f'{crate}/{name[:-5]}: in no row of PROMISES.md')
-        wanted = re.findall(r'^refuses: (.*)', open(path, encoding='utf-8').read(), re.M)
-        log = f'target/must-fail/{crate}/{name[:-5]}/.log'
-        text = open(log, encoding='utf-8').read() if os.path.exists(log) else ''
-        by_proof = {}
-        for proof, error in re.findall(r'^\S+?/proofs/(\S+?)\.antt:\d+:\d+: error: (.*)', text, re.M):
-            if 'was not admitted' not in error:
-                by_proof.setdefault(proof, []).append(error)
-        for proof, errors in by_proof.items():
-            if all(re.search('that can be named from here|has no field', e) for e in errors):
-                wrong.append(f'{crate}/{name[:-5]}: {proof} is refused at a name, not at a fact')
-        for function in ' '.join(wanted).split():
-            if not re.search(rf'^fn {crate}::(?:\w+::)*{function}: (?:not proved$|no proof: (?!.*it calls))', text, re.M):
-                wrong.append(f'{crate}/{name[:-5]}: {function} is not refused by itself')
+            if len(by.get((crate, function), [])) < 2:
+                wrong.append(f'{crate}::{function}: tried by {len(by.get((crate, function), []))} wrong answers')
     for w in wrong:
         print(w)
-    print(f'{functions} functions, {len(named)} edits, {len(wrong)} things to look at')
+    print(f'{functions} functions, {edits} edits, {sum(map(len, by.values()))} wrong answers, {len(wrong)} things to look at')
     sys.exit(1 if wrong else 0)
 
 
