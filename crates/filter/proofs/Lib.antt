@@ -3,4 +3,3 @@ pub mod GaborLaws
 pub mod EpfLaws
 pub mod FilterLaws
 pub mod PatternLaws
-pub mod Refusing
