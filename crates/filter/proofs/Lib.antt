@@ -3,3 +3,4 @@ pub mod GaborLaws
 pub mod EpfLaws
 pub mod FilterLaws
 pub mod PatternLaws
+pub mod Columns

@@ -5,3 +5,4 @@ pub mod Canvas
 pub mod Whole
 pub mod AllDefault
 pub mod Entering
+pub mod Columns

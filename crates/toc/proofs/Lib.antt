@@ -4,3 +4,4 @@ pub mod Judging
 pub mod Filling
 pub mod Entering
 pub mod Accepted
+pub mod Columns
