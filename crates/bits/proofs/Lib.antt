@@ -8,3 +8,4 @@ pub mod Rows
 pub mod Reading
 pub mod Numbered
 pub mod Once
+pub mod Columns

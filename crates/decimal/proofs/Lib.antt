@@ -1,3 +1,2 @@
 pub mod Spelling
 pub mod Scanning
-pub mod Both

@@ -1,5 +1,5 @@
 -- Laws of writing a number: one digit, one digit more, and what stands behind.
-use Prim.Native.Nat.{ℕ, zero, suc, _+_, _-_, _*_, _/_, _%_, _^_, _≤_, _<_}
+use Prim.Native.Nat.{ℕ, zero, suc, _+_, _-_, _/_, _%_, _^_, _≤_, _<_}
 use native.Mathlib.Omega.{arith}
 use native.Mathlib.Nat.{not-suc-le-zero, le-refl}
 use native.Mathlib.Decide.{decLe}
@@ -53,14 +53,6 @@ onto-is n text = spelled-behind (suc n) n [] text
 pub decimal-small : (n : ℕ) → n < 10 → decimal n ≡ (48 + n) ∷ []
 unfolding decimal
 decimal-small n h = onto-small n [] h
-
--- one digit more behind a number that isn't 0
-pub decimal-more : (v d : ℕ) → 0 < v → d < 10 → decimal (v * 10 + d) ≡ decimal v ++ ((48 + d) ∷ [])
-unfolding decimal
-decimal-more v d h g =
-    let q : (v * 10 + d) / 10 ≡ v = omega arith in
-    let r : (v * 10 + d) % 10 ≡ d = omega arith in
-    onto-large (v * 10 + d) [] (omega arith) ∙ rw (q, r) (onto-is v ((48 + d) ∷ []))
 
 pub decimal-large : (n : ℕ) → 10 ≤ n → decimal n ≡ decimal (n / 10) ++ ((48 + n % 10) ∷ [])
 unfolding decimal

@@ -3,4 +3,4 @@ pub mod GaborLaws
 pub mod EpfLaws
 pub mod FilterLaws
 pub mod PatternLaws
-pub mod Refusing
+pub mod Columns

@@ -2,15 +2,14 @@
 use Prim.Native.Nat.{ℕ, _+_, _*_, _%_, _^_, _≤_, _<_}
 use native.Mathlib.Omega.{arith}
 use native.Mathlib.Nat.{mul-le-mul, mul-pos, le-mul-of-pos-right, pow-le-pow-right, le-trans}
-use mathlib.Core.Path.{_≡_, refl, ap}
+use mathlib.Core.Path.{_≡_, refl}
 use mathlib.Core.Bool.{Bool, true, false, _&&_, _||_}
 use mathlib.Core.Logic.{by-cases}
 use native.Mathlib.Decide.{decLe}
 use borrow.Author.Tests.{le-leb, lt-leb, leb-true, eqb-true, eqb-false, ltb-false}
 use lib.Dec.{leb, eqb}
 use lib.Pow.{pow-mono, pow-pos}
-use Rattle.bits.specs.Refusals.{pick, none}
-use Rattle.bits.specs.declared.Refusal.{Refusal}
+use Rattle.bits.specs.Refusals.{pick}
 use Rattle.grid.specs.declared.Frame.{Frame}
 use Rattle.grid.specs.declared.Grid.{Grid}
 use Rattle.grid.specs.Sizes.{up, sample, colorWidth, colorHeight, groupSide, lfSide, count, sectionsOf, sections}
@@ -202,18 +201,3 @@ pub sound : (f : Frame) (g : Grid) → g ≡ gridOf f → g .refusal .number ≡
 sound f g m z =
     let a = accepted f (rw m at z) in
     rw (m, a .grid) (laid-sound f a)
-
-ways-out : (a z m : Bool) (l : Grid) → l .refusal ≡ none
-    → (pick a (pick z (refusedGrid 9) (pick m (refusedGrid 10) l)) (refusedGrid 8) .refusal .number ≡ 0 → ⊥)
-    → pick a (pick z (refusedGrid 9) (pick m (refusedGrid 10) l)) (refusedGrid 8)
-    ≡ refusedGrid (pick a (pick z (refusedGrid 9) (pick m (refusedGrid 10) l)) (refusedGrid 8) .refusal .number)
-unfolding refusedGrid
-ways-out true false false l e h = absurd (h (ap (λ (r : Refusal). r .number) e))
-ways-out true false true l e h = refl
-ways-out true true m l e h = refl
-ways-out false z m l e h = refl
-
--- beside a refusal all numbers are 0
-pub refused : (f : Frame) → (gridOf f .refusal .number ≡ 0 → ⊥) → gridOf f ≡ refusedGrid (gridOf f .refusal .number)
-unfolding gridOf laid
-refused f h = ways-out (goodRecord f) (zeroSize f) (tooMany f) (laid f) refl h

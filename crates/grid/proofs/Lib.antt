@@ -4,5 +4,3 @@ pub mod Steps
 pub mod Answers
 pub mod Lookups
 pub mod Cover
-pub mod Exactly
-pub mod Refusing

@@ -5,5 +5,4 @@ pub mod Canvas
 pub mod Whole
 pub mod AllDefault
 pub mod Entering
-pub mod Once
-pub mod Refusing
+pub mod Columns

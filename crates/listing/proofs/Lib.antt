@@ -3,4 +3,3 @@ pub mod Showing
 pub mod Columns
 pub mod Walks
 pub mod Texts
-pub mod Once

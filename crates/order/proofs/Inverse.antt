@@ -1,4 +1,4 @@
--- Laws of the inverse: there and back from either side, the inverse of the inverse, and the identity.
+-- Laws of the inverse: from a sent number to its section and back, the inverse of the inverse, and the identity.
 use Prim.Native.Nat.{ℕ, _<_}
 use mathlib.Core.Path.{_≡_, sym, _∙_, ap}
 use mathlib.Core.List.{List}
@@ -6,7 +6,7 @@ use mathlib.Core.Bool.{true}
 use lib.ListN.{length, getD}
 use Rattle.order.specs.Order.{isOrder}
 use Rattle.order.specs.Tables.{tabulate, indexOf, inverseOf, identity}
-use Rattle.order.proofs.Reach.{order-by, order-length, order-below, index-below, index-there, index-back}
+use Rattle.order.proofs.Reach.{order-by, order-length, index-below, index-there}
 use Rattle.order.proofs.Tables.{same-words, length-tabulate, getD-tabulate}
 
 -- a table of computed words is an order
@@ -26,10 +26,6 @@ module _ (count : ℕ) (l : List ℕ) where
   inverse-at k h = getD-tabulate count (λ k. indexOf k l) k h
 
 module _ (count : ℕ) (l : List ℕ) (o : isOrder count l ≡ true) where
-  -- from a section to its sent number and back
-  pub inverse-back : (j : ℕ) → j < count → getD (inverseOf count l) (getD l j 0) 0 ≡ j
-  inverse-back j h = inverse-at count l (getD l j 0) (order-below count l o j h) ∙ index-back count l o j h
-
   -- from a sent number to its section and back
   pub inverse-there : (k : ℕ) → k < count → getD l (getD (inverseOf count l) k 0) 0 ≡ k
   inverse-there k h = ap (λ (j : ℕ). getD l j 0) (inverse-at count l k h) ∙ index-there count l o k h
@@ -49,10 +45,6 @@ module _ (count : ℕ) (l : List ℕ) (o : isOrder count l ≡ true) where
 pub inverse-inverse : (count : ℕ) (l : List ℕ) → isOrder count l ≡ true → inverseOf count (inverseOf count l) ≡ l
 inverse-inverse count l o =
     sym (inverse-unique count (inverseOf count l) (inverse-order count l o) l (order-length count l o) (inverse-there count l o))
-
--- an order is determined by its inverse
-pub inverse-determines : (count : ℕ) (l m : List ℕ) → isOrder count l ≡ true → isOrder count m ≡ true → inverseOf count l ≡ inverseOf count m → l ≡ m
-inverse-determines count l m ol om e = sym (inverse-inverse count l ol) ∙ ap (inverseOf count) e ∙ inverse-inverse count m om
 
 module _ (count : ℕ) where
   pub identity-length : length (identity count) ≡ count

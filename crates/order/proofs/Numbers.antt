@@ -1,4 +1,4 @@
--- Laws of the two kinds of number: what looking up an order table answers, and there and back through the two tables.
+-- Laws of the two kinds of number: what looking up an order table answers.
 use Prim.Native.Nat.{ℕ, _≤_, _<_}
 use native.Mathlib.Omega.{arith}
 use mathlib.Core.Path.{_≡_, refl, sym, _∙_, ap}
@@ -14,11 +14,9 @@ use Rattle.order.specs.declared.Entry.{Entry}
 use Rattle.order.specs.declared.SentAnswer.{SentAnswer}
 use Rattle.order.specs.declared.SectionAnswer.{SectionAnswer}
 use Rattle.order.specs.Order.{isOrder, checked}
-use Rattle.order.specs.Tables.{inverseOf}
 use Rattle.order.specs.Numbers.{lookedUp, entryAt, sentOf, sectionOf}
 use Rattle.order.proofs.Checked.{number, checked-good, accepted}
-use Rattle.order.proofs.Reach.{order-length, order-below}
-use Rattle.order.proofs.Inverse.{inverse-order, inverse-back, inverse-there}
+use Rattle.order.proofs.Reach.{order-length}
 
 module _ (table : List ℕ) (count index : ℕ) where
   pub look-bad : (r : Refusal) → r ≡ checked count table → (r .number ≡ 0 → ⊥)
@@ -54,7 +52,7 @@ section-found inverse count sent e p = rw p
 
 -- through an order of at most 65,536 sections
 module _ (count : ℕ) (l : List ℕ) (small : count ≤ 65536) (o : isOrder count l ≡ true) where
-  pub entry-found : (i : ℕ) → i < count → _≡_ {A = Entry} (entryAt l count i) (record { word = getD l i 0; refusal = none })
+  entry-found : (i : ℕ) → i < count → _≡_ {A = Entry} (entryAt l count i) (record { word = getD l i 0; refusal = none })
   entry-found i h = sym (look-found l count i none (checked-good count l small o) refl h)
 
   pub sent-answer : (s : SectionNumber) → s .0 < count
@@ -64,19 +62,3 @@ module _ (count : ℕ) (l : List ℕ) (small : count ≤ 65536) (o : isOrder cou
   pub section-answer : (k : SentNumber) → k .0 < count
       → _≡_ {A = SectionAnswer} (sectionOf l count k) (record { section = record { 0 = getD l (k .0) 0 }; refusal = none })
   section-answer k h = sym (section-found l count k (record { word = getD l (k .0) 0; refusal = none }) (sym (entry-found (k .0) h)))
-
-module _ (count : ℕ) (l : List ℕ) (small : count ≤ 65536) (o : isOrder count l ≡ true) where
-  -- a section's sent number is sent for that section
-  pub section-of-sent : (s : SectionNumber) → s .0 < count
-      → _≡_ {A = SectionAnswer} (sectionOf (inverseOf count l) count (sentOf l count s .sent)) (record { section = s; refusal = none })
-  section-of-sent s h =
-      rw (sent-answer count l small o s h, section-answer count (inverseOf count l) small (inverse-order count l o) (record { 0 = getD l (s .0) 0 }) (order-below count l o (s .0) h))
-      (ap (λ (j : ℕ). record { section = record { 0 = j }; refusal = none }) (inverse-back count l o (s .0) h))
-
-  -- and the other way round
-  pub sent-of-section : (k : SentNumber) → k .0 < count
-      → _≡_ {A = SentAnswer} (sentOf l count (sectionOf (inverseOf count l) count k .section)) (record { sent = k; refusal = none })
-  sent-of-section k h =
-      let inv : List ℕ = inverseOf count l in
-      rw (section-answer count inv small (inverse-order count l o) k h, sent-answer count l small o (record { 0 = getD inv (k .0) 0 }) (order-below count inv (inverse-order count l o) (k .0) h))
-      (ap (λ (j : ℕ). record { sent = record { 0 = j }; refusal = none }) (inverse-there count l o (k .0) h))

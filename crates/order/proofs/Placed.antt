@@ -14,10 +14,8 @@ use Rattle.bits.specs.Refusals.{pick}
 use Rattle.bits.proofs.Bits.{and-left, and-right}
 use Rattle.order.specs.Order.{has, distinct, isOrder}
 use Rattle.order.specs.Tables.{tabulate, indexOf, inverseOf, filled, placedBy, placed}
-use Rattle.order.specs.Sums.{sumTo}
-use Rattle.order.proofs.Sums.{sum-ext}
 use Rattle.order.proofs.Entries.{split, false-by, has-at}
-use Rattle.order.proofs.Reach.{order-length, order-distinct, order-below, order-reaches, order-sum}
+use Rattle.order.proofs.Reach.{order-length, order-distinct, order-below, order-reaches}
 use Rattle.order.proofs.Tables.{length-tabulate, getD-tabulate, tabulate-ext, filled-by}
 use Rattle.order.proofs.Inverse.{inverse-order, index-inverse}
 
@@ -73,13 +71,6 @@ module _ (f : ℕ → ℕ) where
       placed-order count (inverseOf count l) t (inverse-order count l o) fits
       ∙ ap (λ (w : List ℕ). filled w t)
       (tabulate-ext count (λ k. f (indexOf k (inverseOf count l))) (λ j. f (getD l j 0)) (λ j h. ap f (index-inverse count l o j h)))
-
-  -- by section, the words come to the same sum as they do as sent
-  pub through-sum : (count : ℕ) (l : List ℕ) → isOrder count l ≡ true → sumTo count (λ j. getD (tabulate count (λ i. f (getD l i 0))) j 0) ≡ sumTo count f
-  through-sum count l o =
-      sum-ext count (λ j. getD (tabulate count (λ i. f (getD l i 0))) j 0) (λ j. f (getD l j 0))
-      (λ j h. getD-tabulate count (λ i. f (getD l i 0)) j h)
-      ∙ order-sum count l o f
 
 -- the sections of an order, each written at its sent number, are the inverse
 pub placed-inverse : (count : ℕ) (l t : List ℕ) → isOrder count l ≡ true → count ≤ length t → placed (take count l) t ≡ filled (inverseOf count l) t

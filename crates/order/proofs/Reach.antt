@@ -1,4 +1,4 @@
--- Laws of an order: count entries below count and none twice reach every number; and a sum by section is the sum as sent.
+-- Laws of an order: count entries below count and none twice reach every number; and a sum at each entry. `Orders` of the crate `theorems` goes on.
 use Prim.Native.Nat.{ℕ, _≤_, _<_}
 use native.Mathlib.Omega.{arith}
 use mathlib.Core.Path.{_≡_, sym, _∙_, ap}
@@ -12,8 +12,8 @@ use Rattle.bits.proofs.Bits.{and-left, and-right}
 use Rattle.order.specs.Order.{has, allBelow, distinct, isOrder}
 use Rattle.order.specs.Tables.{indexOf}
 use Rattle.order.specs.Sums.{sumTo}
-use Rattle.order.proofs.Entries.{split, and-both, below-at, below-by, once, distinct-by, has-at, index-of}
-use Rattle.order.proofs.Sums.{sum-ext, sum-ones, sum-less, sum-entries}
+use Rattle.order.proofs.Entries.{split, and-both, below-at, below-by, distinct-by, has-at}
+use Rattle.order.proofs.Sums.{sum-ones, sum-less, sum-entries}
 
 -- an order from what is said of each entry
 pub order-by : (count : ℕ) (l : List ℕ) → length l ≡ count → ((j : ℕ) → j < count → getD l j 0 < count)
@@ -44,9 +44,6 @@ module _ (count : ℕ) (l : List ℕ) (o : isOrder count l ≡ true) where
   pub order-below : (j : ℕ) → j < count → getD l j 0 < count
   order-below j h = below-at count l j order-small (omega (arith, order-length))
 
-  pub order-once : (i j : ℕ) → i < count → j < count → getD l i 0 ≡ getD l j 0 → i ≡ j
-  order-once i j hi hj q = once l i j order-distinct (omega (arith, order-length)) (omega (arith, order-length)) q
-
   -- a sum of f at each entry
   pub order-sum-marks : (f : ℕ → ℕ) → sumTo count (λ j. f (getD l j 0)) ≡ sumTo count (λ k. pick (has k l) (f k) 0)
   order-sum-marks f =
@@ -60,16 +57,9 @@ module _ (count : ℕ) (l : List ℕ) (o : isOrder count l ≡ true) where
       sum-less count k (λ i. pick (has i l) 1 0) (λ i. mark-small (has i l)) h (rw t) in
       absurd (omega (arith, order-sum-marks (λ i. 1), sum-ones count)))
 
-  -- by section or as sent, a sum is the same
-  pub order-sum : (f : ℕ → ℕ) → sumTo count (λ j. f (getD l j 0)) ≡ sumTo count f
-  order-sum f = order-sum-marks f ∙ sum-ext count (λ k. pick (has k l) (f k) 0) f (λ k h. rw (order-reaches k h))
-
   -- each number's index, there and back
   pub index-below : (k : ℕ) → k < count → indexOf k l < count
   index-below k h = omega (arith, order-length, has-at k l (order-reaches k h) .0)
 
   pub index-there : (k : ℕ) → k < count → getD l (indexOf k l) 0 ≡ k
   index-there k h = has-at k l (order-reaches k h) .1
-
-  pub index-back : (j : ℕ) → j < count → indexOf (getD l j 0) l ≡ j
-  index-back j h = index-of l j order-distinct (omega (arith, order-length))

@@ -1,4 +1,3 @@
 pub mod Counts
 pub mod OfKinds
-pub mod KindsBack
 pub mod Asking

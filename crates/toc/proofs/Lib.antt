@@ -4,7 +4,4 @@ pub mod Judging
 pub mod Filling
 pub mod Entering
 pub mod Accepted
-pub mod Found
-pub mod Bytes
-pub mod Demand
-pub mod Refusing
+pub mod Columns

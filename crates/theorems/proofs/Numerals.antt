@@ -5,18 +5,26 @@ use native.Mathlib.Nat.{not-suc-le-zero}
 use native.Mathlib.Decide.{decLe}
 use mathlib.Core.Path.{_≡_, refl, sym, _∙_, ap}
 use mathlib.Core.Logic.{by-cases}
-use mathlib.Core.Bool.{Bool, true, false, not, _&&_}
+use mathlib.Core.Bool.{Bool, true, false, _&&_}
 use mathlib.Core.List.{List, [], _∷_, _++_, append-assoc, append-nil}
 use lib.Dec.{leb, eqb}
 use lib.ListN.{getD}
 use borrow.Author.Tests.{le-leb, leb-true, eqb-false, ne-eqb, not-true}
 use Rattle.bits.specs.Refusals.{pick}
 use Rattle.bits.proofs.Bits.{and-left, and-right}
 use Rattle.decimal.specs.declared.Parsed.{Parsed}
 use Rattle.decimal.specs.Decimal.{decimal, isDigit, digitsAlone, leads, valueFrom, judged, parsed, good, bad}
-use Rattle.decimal.proofs.Spelling.{decimal-small, decimal-more, decimal-large}
+use Rattle.decimal.proofs.Spelling.{onto-large, onto-is, decimal-small, decimal-large}
 
 -- ---- one digit more behind a text
+
+-- one digit more behind a number that isn't 0
+decimal-more : (v d : ℕ) → 0 < v → d < 10 → decimal (v * 10 + d) ≡ decimal v ++ ((48 + d) ∷ [])
+unfolding decimal
+decimal-more v d h g =
+    let q : (v * 10 + d) / 10 ≡ v = omega arith in
+    let r : (v * 10 + d) % 10 ≡ d = omega arith in
+    onto-large (v * 10 + d) [] (omega arith) ∙ rw (q, r) (onto-is v ((48 + d) ∷ []))
 
 value-behind : (v : ℕ) (text : List ℕ) (b : ℕ) → valueFrom v (text ++ (b ∷ [])) ≡ valueFrom v text * 10 + (b - 48)
 unfolding valueFrom

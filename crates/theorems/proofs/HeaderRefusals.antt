@@ -1,26 +1,88 @@
--- A header is refused with a number of the rules, at a place within the input.
+-- A header, with its filters, is refused with a number of the rules, at a place within the input.
 use Prim.Native.Nat.{ℕ}
 use native.Mathlib.Omega.{arith}
 use mathlib.Core.Bool.{Bool, true}
 use mathlib.Core.List.{List}
 use lib.Dec.{eqb, ltb}
+use lib.Ieee.{Float}
 use Rattle.bits.specs.declared.Refusal.{Refusal}
 use Rattle.bits.specs.Refusals.{pick, refusal, none}
 use Rattle.bits.specs.Codec.{Codec}
 use Rattle.bits.proofs.Numbered.{Numbered, Known, of-both, read-known, numbered-bind, numbered-inside, numbered-within, numbered-times, numbered-extensions}
-use Rattle.filter.proofs.Refusing.{restoration-numbered}
+use Rattle.filter.specs.Values.{float, floats}
+use Rattle.filter.specs.Gabor.{channel, gabor}
+use Rattle.filter.specs.Epf.{sharp, scale, sigma, epf}
+use Rattle.filter.specs.Filter.{restoration}
 use Rattle.header.specs.declared.Facts.{Facts}
 use Rattle.header.specs.declared.opening.Opening.{Opening}
 use Rattle.header.specs.declared.shape.Placement.{Placement}
 use Rattle.header.specs.declared.blending.Decider.{Decider}
 use Rattle.header.specs.declared.entry.HeaderAnswer.{HeaderAnswer}
 use Rattle.header.specs.Arrays.{element, array}
 use Rattle.header.specs.Opening.{opening}
 use Rattle.header.specs.Shape.{passes, scales, placement}
 use Rattle.header.specs.Blending.{blending}
 use Rattle.header.specs.Closing.{closing}
 use Rattle.header.specs.Header.{front, back, header}
 use Rattle.header.specs.Entry.{badFacts, noRoom, judged, stands, refusalOf, refusedHeader, answered}
+
+-- ---- the filters' tables
+
+channel-numbered : (on : Bool) (i : ℕ) → Numbered (channel on i)
+unfolding channel Numbered
+channel-numbered on i = λ a b. (omega arith, tt)
+
+gabor-numbered : (on : Bool) → Numbered (gabor on)
+unfolding gabor Numbered
+gabor-numbered on =
+    λ enabled own.
+    numbered-bind _ _ (channel-numbered _ 0) (λ x.
+    numbered-bind _ _ (channel-numbered _ 1) (λ y.
+    numbered-bind _ _ (channel-numbered _ 2) (λ z. tt)))
+
+float-numbered : {R : Type 0} (on : Bool) (d : ℕ) (column : R → ℕ) → Numbered (float on d column)
+unfolding float Numbered
+float-numbered on d column = λ h. tt
+
+floats-numbered : {R : Type 0} (on : Bool) (count : ℕ) (values : R → List Float) → Numbered (floats on count values)
+unfolding floats
+floats-numbered on count values = numbered-times count 0 _ (λ i. float-numbered on 0 _)
+
+sharp-numbered : (on : Bool) → Numbered (sharp on)
+unfolding sharp Numbered
+sharp-numbered on = λ own. numbered-bind _ _ (floats-numbered _ 8 _) (λ values. tt)
+
+scale-numbered : (on : Bool) → Numbered (scale on)
+unfolding scale Numbered
+scale-numbered on = λ own. numbered-bind _ _ (floats-numbered _ 3 _) (λ values ignored. tt)
+
+sigma-numbered : (on modular : Bool) → Numbered (sigma on modular)
+unfolding sigma Numbered
+sigma-numbered on modular =
+    λ own.
+    numbered-bind _ _ (float-numbered _ 0 _) (λ q.
+    numbered-bind _ _ (float-numbered _ 0 _) (λ a.
+    numbered-bind _ _ (float-numbered _ 0 _) (λ b.
+    numbered-bind _ _ (float-numbered _ 0 _) (λ d. tt))))
+
+epf-numbered : (on modular : Bool) → Numbered (epf on modular)
+unfolding epf Numbered
+epf-numbered on modular =
+    λ iters.
+    numbered-inside _ _ _ (sharp-numbered _) (λ lut.
+    numbered-inside _ _ _ (scale-numbered _) (λ scales.
+    numbered-inside _ _ _ (sigma-numbered _ modular) (λ four.
+    numbered-bind _ _ (float-numbered _ 15360 _) (λ m. tt))))
+
+restoration-numbered : (on modular : Bool) → Numbered (restoration on modular)
+unfolding restoration Numbered
+restoration-numbered on modular =
+    λ all.
+    numbered-inside _ _ _ (gabor-numbered _) (λ gab.
+    numbered-inside _ _ _ (epf-numbered _ modular) (λ edges.
+    numbered-inside _ _ _ (numbered-extensions _) (λ skipped. tt)))
+
+-- ---- the header's tables
 
 opening-numbered : (f : Facts) → Numbered (opening f)
 unfolding opening Numbered

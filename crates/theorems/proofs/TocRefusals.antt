@@ -3,7 +3,7 @@ use Prim.Native.Nat.{ℕ, _*_, _≤_}
 use native.Mathlib.Omega.{arith}
 use mathlib.Core.Path.{_≡_, refl}
 use mathlib.Core.Bool.{Bool, true, false}
-use mathlib.Core.List.{List, []}
+use mathlib.Core.List.{List}
 use lib.Dec.{eqb, leb, ltb}
 use lib.ListN.{length}
 use borrow.Author.Tests.{eqb-true}
@@ -15,15 +15,14 @@ use Rattle.bits.specs.Table.{Out, read}
 use Rattle.bits.proofs.Reading.{read-within-end}
 use Rattle.bits.proofs.Numbered.{Numbered, Known, of-both, read-known, numbered-bind, numbered-inside, numbered-pick, numbered-times}
 use Rattle.grid.specs.declared.Frame.{Frame}
-use Rattle.grid.specs.declared.Grid.{Grid}
 use Rattle.grid.specs.Measured.{gridOf}
-use Rattle.grid.proofs.Refusing.{grid-known}
 use Rattle.order.specs.Order.{isOrder, checked}
 use Rattle.toc.specs.declared.TocRead.{TocRead}
 use Rattle.toc.specs.declared.TocRead.the-variants.{Table, OrderNeeded, Refused}
 use Rattle.toc.specs.Sizes.{Sent, sizeRows, tocRows}
-use Rattle.toc.specs.Reading.{Tables, roomy, judgedBy, judged, judgedOrder, Reading, tocOf, sizedAnswer, firstRead, secondRead, refusedRead, firstReading, secondReading}
+use Rattle.toc.specs.Reading.{Tables, roomy, judgedBy, judged, judgedOrder, tocOf, sizedAnswer, firstRead, secondRead, refusedRead, firstReading, secondReading}
 use Rattle.toc.proofs.Judging.{judged-fair}
+use Rattle.theorems.proofs.GridRefusals.{grid-known}
 
 sizes-numbered : (count : ℕ) → Numbered (sizeRows count)
 unfolding sizeRows Numbered

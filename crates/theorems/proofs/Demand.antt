@@ -15,30 +15,31 @@ use Rattle.grid.specs.Measured.{gridOf, laid}
 use Rattle.grid.specs.Groups.{rectOf, indexAt}
 use Rattle.grid.proofs.Accepted.{accepted}
 use Rattle.grid.proofs.Answers.{judge-known}
-use Rattle.grid.proofs.Cover.{In}
-use Rattle.grid.proofs.Exactly.{Exactly, groups-exactly}
 use Rattle.order.specs.declared.SectionAnswer.{SectionAnswer}
 use Rattle.order.specs.Tables.{identity, inverseOf}
 use Rattle.order.specs.Sums.{sumTo}
 use Rattle.order.proofs.Sums.{sum-ext}
-use Rattle.order.proofs.Reach.{order-below, order-once, order-sum}
-use Rattle.order.proofs.Inverse.{inverse-order, inverse-back, inverse-there}
+use Rattle.order.proofs.Reach.{order-below}
+use Rattle.order.proofs.Inverse.{inverse-order, inverse-there}
 use Rattle.order.proofs.Tables.{getD-tabulate}
 use Rattle.toc.specs.declared.Toc.{Toc}
 use Rattle.toc.specs.declared.TocRead.the-variants.{Table}
 use Rattle.sections.specs.declared.TocGroupKind.{TocGroupKind}
 use Rattle.sections.specs.declared.TocGroupKind.the-variants.{All, GroupPass}
 use Rattle.sections.specs.declared.KindAnswer.{KindAnswer}
 use Rattle.sections.specs.Kinds.{numbersOf, sectionNumber, kindOf}
 use Rattle.toc.specs.Sizes.{sentBefore, offsetsBy, sizesBy}
 use Rattle.toc.specs.Reading.{Tables, tables, Reading, firstReading, secondReading, Done}
 use Rattle.sections.specs.Lookups.{sampleKind, sectionOfSample}
 use Rattle.sections.proofs.OfKinds.{number-below, of-kind-yes}
-use Rattle.sections.proofs.KindsBack.{kind-of-section-of}
 use Rattle.sections.proofs.Asking.{Sample, sample-all, sample-group, sample-has}
-use Rattle.toc.proofs.Accepted.{Accepted, first-accepted, second-accepted, offset-at, size-at, order-at, inverse-at}
-use Rattle.toc.proofs.Found.{sample-answer}
-use Rattle.toc.proofs.Bytes.{Spot, spot, spot-end, spot-once, sum-cut}
+use Rattle.toc.proofs.Accepted.{Accepted, first-accepted}
+use Rattle.theorems.proofs.Orders.{order-once, order-sum, inverse-back}
+use Rattle.theorems.proofs.Rectangles.{In, Exactly, groups-exactly}
+use Rattle.theorems.proofs.KindsBack.{kind-of-section-of}
+use Rattle.theorems.proofs.Tables.{second-accepted, offset-at, size-at, order-at, inverse-at}
+use Rattle.theorems.proofs.Found.{sample-answer}
+use Rattle.theorems.proofs.Spots.{Spot, spot, spot-end, spot-once, sum-cut}
 
 -- ---- the words of the theorem. Of four tables `t` it speaks of the words below the count: offset[j], size[j], order[j], inverse[k].
 

@@ -7,7 +7,6 @@ use mathlib.Core.Bool.{true, _&&_}
 use lib.ListN.{length, getD}
 use lib.Dec.{leb, ltb}
 use borrow.Author.Tests.{eqb-false, le-leb, lt-ltb}
-use Rattle.bits.proofs.Once.{once}
 use Rattle.bits.specs.Refusals.{none}
 use Rattle.grid.specs.declared.Frame.{Frame}
 use Rattle.grid.specs.declared.Grid.{Grid}
@@ -19,23 +18,17 @@ use Rattle.order.specs.declared.SectionAnswer.{SectionAnswer}
 use Rattle.order.proofs.Entries.{and-both}
 use Rattle.order.specs.Tables.{filled}
 use Rattle.order.proofs.Tables.{filled-length}
 use Rattle.toc.specs.declared.Toc.{Toc}
-use Rattle.toc.specs.declared.TocRead.{TocRead}
 use Rattle.sections.specs.declared.TocGroupKind.the-variants.{GroupPass}
 use Rattle.sections.specs.declared.SectionPlace.{SectionPlace}
 use Rattle.sections.specs.Kinds.{numbersOf, sectionNumber}
 use Rattle.toc.specs.Sizes.{sentBefore}
-use Rattle.toc.specs.Reading.{Tables, Reading, tablesOf, after, Done}
+use Rattle.toc.specs.Reading.{Tables, Reading, tablesOf, after}
 use Rattle.sections.specs.Lookups.{sampleKind, hasSample, sectionOfSample, placeOf}
 use Rattle.sections.proofs.OfKinds.{number-pass}
 use Rattle.sections.proofs.Asking.{Sample, sample-group, of-sample-yes, place-judged, place-yes}
-use Rattle.toc.proofs.Accepted.{Accepted, offset-at, size-at}
-
--- any two answers that an entry's promise allows are equal, word by word
-pub done-once : (r : Reading) (before : Tables) (x y : TocRead) (o s p i o' s' p' i' : List ℕ) → Done r before x o s p i → Done r before y o' s' p' i'
-    → (x ≡ y) × (o ≡ o') × (s ≡ s') × (p ≡ p') × (i ≡ i')
-done-once r before x y o s p i o' s' p' i' d e =
-    (once (d .answer) (e .answer), once (d .offsets) (e .offsets), once (d .sizes) (e .sizes), once (d .order) (e .order), once (d .inverse) (e .inverse))
+use Rattle.toc.proofs.Accepted.{Accepted}
+use Rattle.theorems.proofs.Tables.{offset-at, size-at}
 
 -- a sample of a frame of several sections, in a pass: the section is 1 + lf + 1 + pass * groups + the sample's group
 module _ (f : Frame) (ok : gridOf f .refusal .number ≡ 0) (x y pass : ℕ) (a : Sample (gridOf f) (f .«num_passes») x y pass) where

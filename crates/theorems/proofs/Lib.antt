@@ -1,0 +1,14 @@
+pub mod Rectangles
+pub mod Orders
+pub mod KindsBack
+pub mod Layouts
+pub mod Tables
+pub mod Spots
+pub mod Found
+pub mod Demand
+pub mod GridRefusals
+pub mod HeaderRefusals
+pub mod TocRefusals
+pub mod Status
+pub mod Numerals
+pub mod Once
