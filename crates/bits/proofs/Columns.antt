@@ -13,7 +13,7 @@ use Rattle.bits.specs.declared.Field.{Field}
 use Rattle.bits.specs.Refusals.{pick, clear}
 use Rattle.bits.specs.Bits.{bitsAt, bitCount, there}
 use Rattle.bits.specs.Half.{exponent}
-use Rattle.bits.specs.Steps.{Steps, gives, refuses, takes, passes, refusedAt, run}
+use Rattle.bits.specs.Steps.{Steps, gives, refuses, takes, passes, cutAt, run}
 use Rattle.bits.specs.Codec.{Codec, bool, u64, f16, padding, skip, steps, field}
 use Rattle.bits.specs.Table.{Table, ends, row, fails, Out, failed, read, bind, within, times}
 use Rattle.bits.specs.Extensions.{lengths, extensions}
@@ -106,7 +106,7 @@ unfolding field run
 bool-small s on d c h =
     picked (λ (r : Field). r .value < 2) (on && clear c) (run (steps bool (c .at)) s (c .at) (c .at)) (record { value = d; next = c })
     (λ e.
-    picked (λ (r : Field). r .value < 2) (there s (c .at) 1) (run (gives (bitsAt s (c .at) 1)) s (c .at) (c .at + 1)) (refusedAt 4 (c .at))
+    picked (λ (r : Field). r .value < 2) (there s (c .at) 1) (run (gives (bitsAt s (c .at) 1)) s (c .at) (c .at + 1)) (cutAt s (c .at) (c .at + 1))
     (λ e. bits-lt s (c .at) 1) (λ e. omega arith))
     (λ e. h)
 
@@ -116,7 +116,7 @@ half-small s on d c h =
     let x : ℕ = bitsAt s (c .at) 16 in
     picked (λ (r : Field). r .value < 65536) (on && clear c) (run (steps f16 (c .at)) s (c .at) (c .at)) (record { value = d; next = c })
     (λ e.
-    picked (λ (r : Field). r .value < 65536) (there s (c .at) 16) (run (pick (eqb (exponent x) 31) (refuses 6) (gives x)) s (c .at) (c .at + 16)) (refusedAt 4 (c .at))
+    picked (λ (r : Field). r .value < 65536) (there s (c .at) 16) (run (pick (eqb (exponent x) 31) (refuses 6) (gives x)) s (c .at) (c .at + 16)) (cutAt s (c .at) (c .at + 16))
     (λ e.
     picked (λ (t : Steps). run t s (c .at) (c .at + 16) .value < 65536) (eqb (exponent x) 31) (refuses 6) (gives x) (λ e. omega arith)
     (λ e. bits-lt s (c .at) 16))
@@ -130,7 +130,7 @@ padding-zero s on c =
     let x : ℕ = bitsAt s (c .at) n in
     picked (λ (r : Field). r .value ≡ 0) (on && clear c) (run (steps padding (c .at)) s (c .at) (c .at)) (record { value = 0; next = c })
     (λ e.
-    picked (λ (r : Field). r .value ≡ 0) (there s (c .at) n) (run (pick (eqb x 0) (gives 0) (refuses 12)) s (c .at) (c .at + n)) (refusedAt 4 (c .at))
+    picked (λ (r : Field). r .value ≡ 0) (there s (c .at) n) (run (pick (eqb x 0) (gives 0) (refuses 12)) s (c .at) (c .at + n)) (cutAt s (c .at) (c .at + n))
     (λ e. picked (λ (t : Steps). run t s (c .at) (c .at + n) .value ≡ 0) (eqb x 0) (gives 0) (refuses 12) (λ e. refl) (λ e. refl))
     (λ e. refl))
     (λ e. refl)
@@ -140,7 +140,7 @@ unfolding field run
 skip-zero s on n c =
     picked (λ (r : Field). r .value ≡ 0) (on && clear c) (run (steps (skip n) (c .at)) s (c .at) (c .at)) (record { value = 0; next = c })
     (λ e.
-    picked (λ (r : Field). r .value ≡ 0) (leb (c .at + n) (bitCount s)) (run (gives 0) s (c .at) (c .at + n)) (refusedAt 4 (c .at)) (λ e. refl) (λ e. refl))
+    picked (λ (r : Field). r .value ≡ 0) (leb (c .at + n) (bitCount s)) (run (gives 0) s (c .at) (c .at + n)) (cutAt s (c .at) (c .at + n)) (λ e. refl) (λ e. refl))
     (λ e. refl)
 
 -- ---- the extensions, of which nothing is kept: where their mask was read as 0
