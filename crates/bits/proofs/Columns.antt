@@ -5,7 +5,7 @@ use native.Mathlib.Omega.{arith}
 use native.Mathlib.Nat.{add-suc, suc-add, add-zero}
 use mathlib.Core.Path.{_≡_, refl, sym, _∙_, ap}
 use mathlib.Core.Bool.{Bool, true, false, _&&_, false≢true}
-use mathlib.Core.List.{List, [], _∷_}
+use mathlib.Core.List.{List, _∷_}
 use lib.Dec.{leb, eqb}
 use lib.ListN.{getD}
 use Rattle.bits.specs.declared.Cursor.{Cursor}
@@ -13,12 +13,13 @@ use Rattle.bits.specs.declared.Field.{Field}
 use Rattle.bits.specs.Refusals.{pick, clear}
 use Rattle.bits.specs.Bits.{bitsAt, bitCount, there}
 use Rattle.bits.specs.Half.{exponent}
-use Rattle.bits.specs.Steps.{Steps, gives, refuses, takes, passes, cutAt, run}
-use Rattle.bits.specs.Codec.{Codec, bool, u64, f16, padding, skip, steps, field}
+use Rattle.bits.specs.Steps.{Steps, gives, refuses, cutAt, run}
+use Rattle.bits.specs.Codec.{bool, u64, f16, padding, skip, steps, field}
 use Rattle.bits.specs.Table.{Table, ends, row, fails, Out, failed, read, bind, within, times}
 use Rattle.bits.specs.Extensions.{lengths, extensions}
 use Rattle.bits.proofs.Bits.{bits-lt}
 use Rattle.bits.proofs.Tables.{read-bind, read-within}
+use Rattle.bits.proofs.Rows.{times-then}
 use Rattle.bits.proofs.Reading.{picked}
 
 -- along the reading of t from s at c, the columns of r give the numbers that were read
@@ -69,6 +70,18 @@ module _ {R A : Type 0} (f : ℕ → Table R A) (s : List ℕ) (r : R) (when : T
         λ w k l. ap at (suc-add i k ∙ sym (add-suc i k)) ∙ h w (suc k) (omega arith) ∙ ap (λ (l : List A). getD l (suc k) d) (first n i c) in
         columns-bind (f i) _ s c r (each i c here)
         (columns-bind (times n (suc i) f) _ s (read (f i) s c .next) r (columns-times n (suc i) (read (f i) s c .next) there) tt)
+
+-- what is read doesn't depend on the columns: elements that read the same make arrays that do
+pub times-any : {R S A : Type 0} (f : ℕ → Table R A) (g : ℕ → Table S A) (s : List ℕ) → ((j : ℕ) (c : Cursor) → read (f j) s c ≡ read (g j) s c)
+    → (n i : ℕ) (c : Cursor) → read (times n i f) s c ≡ read (times n i g) s c
+unfolding times read
+times-any f g s same zero i c = refl
+times-any f g s same (suc n) i c =
+    let one = read (g i) s c in
+    let more = read (times n (suc i) g) s (one .next) in
+    let mine = times-then n i f (one .value) (one .next) {vs = more .value} {last = more .next} (record { is = same i c }) (record { is = times-any f g s same n (suc i) (one .next) }) in
+    let yours = times-then n i g (one .value) (one .next) {vs = more .value} {last = more .next} (record { is = refl }) (record { is = refl }) in
+    mine .is ∙ sym (yours .is)
 
 -- ---- a table of rows that ends in its record: over any numbers, what the rows ask of the record. `given` is what is known of it, `due` what the rows before ask.
 

@@ -5,7 +5,7 @@ use Prim.Native.Nat.{ℕ, _+_, _*_, _<_}
 use native.Mathlib.Omega.{arith}
 use native.Mathlib.Nat.{zero-add}
 use mathlib.Core.Path.{_≡_, refl, sym, _∙_, ap}
-use mathlib.Core.Bool.{Bool, true, false, not, _&&_, false≢true}
+use mathlib.Core.Bool.{Bool, true, false, not, _&&_}
 use mathlib.Core.List.{List}
 use lib.Dec.{eqb}
 use lib.ListN.{getD}
@@ -14,19 +14,18 @@ use borrow.Author.Tests.{eqb-true, eqb-false, not-true}
 use Rattle.bits.specs.declared.Cursor.{Cursor}
 use Rattle.bits.specs.declared.Field.{Field}
 use Rattle.bits.specs.Refusals.{pick}
+use Rattle.bits.specs.Half.{half}
 use Rattle.bits.specs.Codec.{u, bool, u64, f16, field}
-use Rattle.bits.specs.Table.{Out, ends, row, read}
+use Rattle.bits.specs.Table.{Table, Out, read, bind}
 use Rattle.bits.specs.Extensions.{extensions}
 use Rattle.bits.proofs.Bits.{and-left, and-right}
-use Rattle.bits.proofs.Tables.{read-bind}
 use Rattle.bits.proofs.Rows.{Reads, row-then, bind-then, within-then, at-end}
-use Rattle.bits.proofs.Columns.{Columns, columns-bind, columns-inside, columns-times, bool-small, half-small, extensions-columns}
+use Rattle.bits.proofs.Columns.{Columns, columns-bind, columns-inside, columns-times, times-any, bool-small, half-small, extensions-columns}
 use Rattle.filter.specs.declared.gabor.Gabor.{Gabor}
 use Rattle.filter.specs.declared.gabor.Channel.{Channel}
 use Rattle.filter.specs.declared.settings.EpfSigma.{EpfSigma}
 use Rattle.filter.specs.declared.settings.EpfParams.{EpfParams}
 use Rattle.filter.specs.declared.epf.EdgePreservingFilter.{EdgePreservingFilter}
-use Rattle.filter.specs.declared.RestorationFilter.{RestorationFilter}
 use Rattle.filter.specs.Values.{pattern, patternAt, custom, float, floats}
 use Rattle.filter.specs.Gabor.{weightsOf, gaborDefault, gaborDisabled, channel, gaborOf, gabor}
 use Rattle.filter.specs.Epf.{sharpDefault, scaleDefault, sigmaDefault, epfDisabled, sharp, scale, sigmas, sigmaOf, sigma, epfOf, epf}
@@ -36,10 +35,39 @@ use Rattle.filter.proofs.GaborLaws.{of-custom}
 
 -- ---- floats
 
-pub float-columns : {R : Type 0} (on : Bool) (d : ℕ) (column : R → ℕ) (s : List ℕ) (c : Cursor) (r : R) → d < 65536
-    → (on ≡ true → column r ≡ pattern (read (float on d column) s c .value)) → Columns (float on d column) s c r
-unfolding float Columns read
-float-columns on d column s c r small is = (λ here. is here ∙ pattern-half (field s on f16 d c .value) (half-small s on d c small), tt)
+-- a float's column is the pattern that was read
+module _ {R : Type 0} (on : Bool) (d : ℕ) (column : R → ℕ) (s : List ℕ) (c : Cursor) (r : R) (small : d < 65536)
+    (is : on ≡ true → column r ≡ pattern (half (field s on f16 d c .value)))
+  where
+    pattern-back : on ≡ true → column r ≡ field s on f16 d c .value
+    pattern-back here = is here ∙ pattern-half (field s on f16 d c .value) (half-small s on d c small)
+
+    pub float-columns : Columns (float on d column) s c r
+    unfolding float Columns
+    float-columns = (pattern-back, tt)
+
+    -- and then the rest
+    pub float-then : {B : Type 0} (f : Float → Table R B) → Columns (f (half (field s on f16 d c .value))) s (field s on f16 d c .next) r
+        → Columns (bind (float on d column) f) s c r
+    unfolding float bind Columns
+    float-then f rest = (pattern-back, rest)
+
+-- what is read doesn't depend on the columns
+float-read : {R : Type 0} (on : Bool) (d : ℕ) (column : R → ℕ) (s : List ℕ) (c : Cursor)
+    → Reads (float on d column) s c (record { value = half (field s on f16 d c .value); next = field s on f16 d c .next })
+unfolding float
+float-read on d column s c = row-then (field s on f16 d c) refl at-end
+
+-- so many floats, by themselves
+abbrev alone : Bool → ℕ → List ℕ → Cursor → Out (List Float)
+alone on count s c = read (floats on count (λ (l : List Float). l)) s c
+
+floats-read : {R : Type 0} (on : Bool) (count : ℕ) (values : R → List Float) (s : List ℕ) (c : Cursor)
+    → Reads (floats on count values) s c (record { value = alone on count s c .value; next = alone on count s c .next })
+unfolding floats
+floats-read on count values s c = record {
+  is = times-any _ _ s (λ j at. float-read on 0 _ s at .is ∙ sym (float-read on 0 _ s at .is)) count 0 c;
+}
 
 pub floats-columns : {R : Type 0} (on : Bool) (count : ℕ) (values : R → List Float) (s : List ℕ) (c : Cursor) (r : R)
     → (on ≡ true → (k : ℕ) → k < count → getD (values r) k nan ≡ getD (read (floats on count values) s c .value) k nan)
@@ -47,7 +75,8 @@ pub floats-columns : {R : Type 0} (on : Bool) (count : ℕ) (values : R → List
 unfolding floats
 floats-columns on count values s c r h =
     columns-times (λ i. float on 0 λ r. patternAt (values r) i) s r (on ≡ true) (λ j. getD (values r) j nan) nan
-    (λ j at is. float-columns on 0 (λ r. patternAt (values r) j) s at r (omega arith) (λ here. ap pattern (is here))) count 0 c
+    (λ j at is.
+    float-columns on 0 (λ r. patternAt (values r) j) s at r (omega arith) (λ here. ap pattern (is here ∙ ap (λ (o : Out Float). o .value) (float-read on 0 _ s at .is)))) count 0 c
     (λ here k l. ap (λ (j : ℕ). getD (values r) j nan) (zero-add k) ∙ h here k l)
 
 -- values that are sent only where a Bool says so, which is read only where it is asked for
@@ -152,21 +181,21 @@ module _ (on : Bool) (s : List ℕ) (c : Cursor) where
   told = field s on bool 0 c
 
   abbrev luts : Out (List Float)
-  luts = read (floats (eqb (told .value) 1) 8 (λ (r : EpfParams). r .«sharp_lut»)) s (told .next)
+  luts = alone (eqb (told .value) 1) 8 s (told .next)
 
   abbrev factors : Out (List Float)
-  factors = read (floats (eqb (told .value) 1) 3 (λ (r : EpfParams). r .«channel_scale»)) s (told .next)
+  factors = alone (eqb (told .value) 1) 3 s (told .next)
 
   abbrev ignored : Field
   ignored = field s (eqb (told .value) 1) (u 32) 0 (factors .next)
 
   sharp-read : Reads (sharp on) s c (record { value = pick (eqb (told .value) 1) (luts .value) sharpDefault; next = luts .next })
   unfolding sharp
-  sharp-read = row-then told refl (bind-then _ _ (luts .value) (luts .next) (record { is = refl }) at-end)
+  sharp-read = row-then told refl (bind-then _ _ (luts .value) (luts .next) (floats-read _ 8 _ s _) at-end)
 
   scale-read : Reads (scale on) s c (record { value = pick (eqb (told .value) 1) (factors .value) scaleDefault; next = ignored .next })
   unfolding scale
-  scale-read = row-then told refl (bind-then _ _ (factors .value) (factors .next) (record { is = refl }) (row-then ignored refl at-end))
+  scale-read = row-then told refl (bind-then _ _ (factors .value) (factors .next) (floats-read _ 3 _ s _) (row-then ignored refl at-end))
 
   -- the Bool in front of the values was read as it would be written
   abbrev pub SharpSent : Type 0
@@ -179,12 +208,14 @@ module _ (on : Bool) (s : List ℕ) (c : Cursor) where
 
   -- values behind their Bool: the record has those that were read, or the default ones
   values-columns : (n : ℕ) (values : EpfParams → List Float) (default : List Float) (r : EpfParams)
-      → (on ≡ true → values r ≡ pick (eqb (told .value) 1) (read (floats (eqb (told .value) 1) n values) s (told .next) .value) default)
+      → (on ≡ true → values r ≡ pick (eqb (told .value) 1) (alone (eqb (told .value) 1) n s (told .next) .value) default)
       → Columns (floats (eqb (told .value) 1) n values) s (told .next) r
   values-columns n values default r is =
       floats-columns (eqb (told .value) 1) n values s (told .next) r (λ here k l.
-      let sent : values r ≡ read (floats (eqb (told .value) 1) n values) s (told .next) .value = is (asked on s c here) ∙ rw here in
-      ap (λ (v : List Float). getD v k nan) sent)
+      let own = alone (eqb (told .value) 1) n s (told .next) in
+      let sent : values r ≡ own .value = is (asked on s c here) ∙ rw here in
+      let same : read (floats (eqb (told .value) 1) n values) s (told .next) .value ≡ own .value = ap (λ (o : Out (List Float)). o .value) (floats-read (eqb (told .value) 1) n values s (told .next) .is) in
+      ap (λ (v : List Float). getD v k nan) (sent ∙ sym same))
 
   -- where they are asked for, the record has what was read
   module _ (r : EpfParams) where
@@ -203,36 +234,36 @@ module _ (on : Bool) (s : List ℕ) (c : Cursor) where
       λ here. rw (is here) (sent .told here),
       columns-bind _ _ s (told .next) r
           (values-columns 3 (λ (r : EpfParams). r .«channel_scale») scaleDefault r (λ here. is here ∙ ap (λ (o : Out (List Float)). o .value) (scale-read .is)))
-          (λ here. sym (sent .ignored here), tt),
+          (λ here. rw (floats-read (eqb (told .value) 1) 3 (λ (r : EpfParams). r .«channel_scale») s (told .next) .is) (sym (sent .ignored here)), tt),
     )
 
 module _ (on modular : Bool) (s : List ℕ) (c : Cursor) where
   abbrev given : Field
   given = field s on bool 0 c
 
-  abbrev quant : Out Float
-  quant = read (float (eqb (given .value) 1 && not modular) 0 λ (r : EpfSigma). pattern (r .«quant_mul»)) s (given .next)
+  abbrev quant : Field
+  quant = field s (eqb (given .value) 1 && not modular) f16 0 (given .next)
 
-  abbrev pass0 : Out Float
-  pass0 = read (float (eqb (given .value) 1) 0 λ (r : EpfSigma). pattern (r .«pass0_sigma_scale»)) s (quant .next)
+  abbrev pass0 : Field
+  pass0 = field s (eqb (given .value) 1) f16 0 (quant .next)
 
-  abbrev pass2 : Out Float
-  pass2 = read (float (eqb (given .value) 1) 0 λ (r : EpfSigma). pattern (r .«pass2_sigma_scale»)) s (pass0 .next)
+  abbrev pass2 : Field
+  pass2 = field s (eqb (given .value) 1) f16 0 (pass0 .next)
 
-  abbrev border : Out Float
-  border = read (float (eqb (given .value) 1) 0 λ (r : EpfSigma). pattern (r .«border_sad_mul»)) s (pass2 .next)
+  abbrev border : Field
+  border = field s (eqb (given .value) 1) f16 0 (pass2 .next)
 
   abbrev four : EpfSigma
-  four = sigmaOf (eqb (given .value) 1) modular (quant .value) (pass0 .value) (pass2 .value) (border .value)
+  four = sigmaOf (eqb (given .value) 1) modular (half (quant .value)) (half (pass0 .value)) (half (pass2 .value)) (half (border .value))
 
   sigma-read : Reads (sigma on modular) s c (record { value = four; next = border .next })
   unfolding sigma
   sigma-read =
       row-then given refl
-      (bind-then _ _ (quant .value) (quant .next) (record { is = refl })
-      (bind-then _ _ (pass0 .value) (pass0 .next) (record { is = refl })
-      (bind-then _ _ (pass2 .value) (pass2 .next) (record { is = refl })
-      (bind-then _ _ (border .value) (border .next) (record { is = refl }) at-end))))
+      (bind-then _ _ (half (quant .value)) (quant .next) (float-read _ 0 _ s _)
+      (bind-then _ _ (half (pass0 .value)) (pass0 .next) (float-read _ 0 _ s _)
+      (bind-then _ _ (half (pass2 .value)) (pass2 .next) (float-read _ 0 _ s _)
+      (bind-then _ _ (half (border .value)) (border .next) (float-read _ 0 _ s _) at-end))))
 
   abbrev pub SigmaSent : Type 0
   SigmaSent = on ≡ true → custom (sigmas (read (sigma on modular) s c .value)) (sigmas sigmaDefault) ≡ given .value
@@ -241,10 +272,10 @@ module _ (on modular : Bool) (s : List ℕ) (c : Cursor) where
     -- where they are sent, the four are those that were read
     sigma-is : eqb (given .value) 1 ≡ true
         → r ≡ record {
-          «quant_mul» = pick modular (sigmaDefault .«quant_mul») (quant .value);
-          «pass0_sigma_scale» = pass0 .value;
-          «pass2_sigma_scale» = pass2 .value;
-          «border_sad_mul» = border .value;
+          «quant_mul» = pick modular (sigmaDefault .«quant_mul») (half (quant .value));
+          «pass0_sigma_scale» = half (pass0 .value);
+          «pass2_sigma_scale» = half (pass2 .value);
+          «border_sad_mul» = half (border .value);
         }
     sigma-is here = is (asked on s c here) ∙ ap (λ (o : Out EpfSigma). o .value) (sigma-read .is) ∙ rw here
 
@@ -252,16 +283,11 @@ module _ (on modular : Bool) (s : List ℕ) (c : Cursor) where
     unfolding sigma Columns
     sigma-columns sent = (
       λ here. rw (is here) (sent here),
-      columns-bind _ _ s (given .next) r
-          (float-columns (eqb (given .value) 1 && not modular) 0 (λ r. pattern (r .«quant_mul»)) s (given .next) r (omega arith) (λ here.
-          ap (λ (e : EpfSigma). pattern (e .«quant_mul»)) (sigma-is (and-left _ (not modular) here)) ∙ rw (not-true modular (and-right (eqb (given .value) 1) (not modular) here))))
-          (columns-bind _ _ s (quant .next) r
-          (float-columns (eqb (given .value) 1) 0 (λ r. pattern (r .«pass0_sigma_scale»)) s (quant .next) r (omega arith) (λ here. ap (λ (e : EpfSigma). pattern (e .«pass0_sigma_scale»)) (sigma-is here)))
-          (columns-bind _ _ s (pass0 .next) r
-          (float-columns (eqb (given .value) 1) 0 (λ r. pattern (r .«pass2_sigma_scale»)) s (pass0 .next) r (omega arith) (λ here. ap (λ (e : EpfSigma). pattern (e .«pass2_sigma_scale»)) (sigma-is here)))
-          (columns-bind _ _ s (pass2 .next) r
-          (float-columns (eqb (given .value) 1) 0 (λ r. pattern (r .«border_sad_mul»)) s (pass2 .next) r (omega arith) (λ here. ap (λ (e : EpfSigma). pattern (e .«border_sad_mul»)) (sigma-is here)))
-          tt))),
+      float-then _ 0 _ s (given .next) r (omega arith)
+          (λ here. ap (λ (e : EpfSigma). pattern (e .«quant_mul»)) (sigma-is (and-left _ (not modular) here)) ∙ rw (not-true modular (and-right (eqb (given .value) 1) (not modular) here))) _
+          (float-then _ 0 _ s (quant .next) r (omega arith) (λ here. ap (λ (e : EpfSigma). pattern (e .«pass0_sigma_scale»)) (sigma-is here)) _
+          (float-then _ 0 _ s (pass0 .next) r (omega arith) (λ here. ap (λ (e : EpfSigma). pattern (e .«pass2_sigma_scale»)) (sigma-is here)) _
+          (float-then _ 0 _ s (pass2 .next) r (omega arith) (λ here. ap (λ (e : EpfSigma). pattern (e .«border_sad_mul»)) (sigma-is here)) _ tt))),
     )
 
 -- a filter without iterations has 0 of them
@@ -286,8 +312,8 @@ module _ (on modular : Bool) (s : List ℕ) (c : Cursor) where
   abbrev sigmaOut : Out EpfSigma
   sigmaOut = read (sigma live modular) s (scales .next)
 
-  abbrev flat : Out Float
-  flat = read (float (live && modular) 15360 λ (r : EdgePreservingFilter). pattern (r .params .«sigma_for_modular»)) s (sigmaOut .next)
+  abbrev flat : Field
+  flat = field s (live && modular) f16 15360 (sigmaOut .next)
 
   abbrev params : EpfParams
   params = record {
@@ -295,7 +321,7 @@ module _ (on modular : Bool) (s : List ℕ) (c : Cursor) where
     «sharp_lut» = lut .value;
     «channel_scale» = scales .value;
     sigma = sigmaOut .value;
-    «sigma_for_modular» = flat .value;
+    «sigma_for_modular» = half (flat .value);
   }
 
   epf-read : Reads (epf on modular) s c (record { value = epfOf params; next = flat .next })
@@ -305,7 +331,7 @@ module _ (on modular : Bool) (s : List ℕ) (c : Cursor) where
       (within-then _ _ _ (lut .value) (lut .next) (record { is = refl })
       (within-then _ _ _ (scales .value) (scales .next) (record { is = refl })
       (within-then _ _ _ (sigmaOut .value) (sigmaOut .next) (record { is = refl })
-      (bind-then _ _ (flat .value) (flat .next) (record { is = refl }) at-end))))
+      (bind-then _ _ (half (flat .value)) (flat .next) (float-read _ 15360 _ s _) at-end))))
 
   -- the three Bools and the ignored bits
   pub record EpfSent : Type 0 where
@@ -327,10 +353,8 @@ module _ (on modular : Bool) (s : List ℕ) (c : Cursor) where
         (scale-columns live s (lut .next) (epfOf params .params) (λ here. ap (λ (p : EpfParams). p .«channel_scale») (live-params here)) (sent .scale))
         (columns-inside _ _ _ s (scales .next) (epfOf params)
         (sigma-columns live modular s (scales .next) (epfOf params .params .sigma) (λ here. ap (λ (p : EpfParams). p .sigma) (live-params here)) (sent .sigma))
-        (columns-bind _ _ s (sigmaOut .next) (epfOf params)
-        (float-columns (live && modular) 15360 (λ r. pattern (r .params .«sigma_for_modular»)) s (sigmaOut .next) (epfOf params) (omega arith) (λ here.
-        ap (λ (p : EpfParams). pattern (p .«sigma_for_modular»)) (live-params (and-left live modular here))))
-        tt))),
+        (float-then _ 15360 _ s (sigmaOut .next) (epfOf params) (omega arith)
+        (λ here. ap (λ (p : EpfParams). pattern (p .«sigma_for_modular»)) (live-params (and-left live modular here))) _ tt))),
   )
 
   pub epf-columns : EpfSent → Columns (epf on modular) s c (read (epf on modular) s c .value)

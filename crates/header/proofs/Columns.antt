@@ -1,5 +1,5 @@
 -- The columns of the header's tables give back what was read: the law of bits' `Columns`, of each table and of the whole header.
-use Prim.Native.Nat.{ℕ, _+_, _-_, _<_}
+use Prim.Native.Nat.{ℕ, _-_, _<_}
 use native.Mathlib.Omega.{arith}
 use native.Mathlib.Nat.{zero-add}
 use mathlib.Core.Path.{_≡_, refl, sym, _∙_, ap}
@@ -9,9 +9,8 @@ use lib.Dec.{eqb}
 use lib.ListN.{getD}
 use Rattle.bits.specs.declared.Cursor.{Cursor}
 use Rattle.bits.specs.declared.Field.{Field}
-use Rattle.bits.specs.Refusals.{pick}
 use Rattle.bits.specs.Codec.{Codec, u, u32, u64, field}
-use Rattle.bits.specs.Table.{Table, Out, read, within, times}
+use Rattle.bits.specs.Table.{Table, Out, read, bind, within, times}
 use Rattle.bits.specs.Extensions.{extensions}
 use Rattle.bits.proofs.Tables.{read-within}
 use Rattle.bits.proofs.Rows.{Reads, row-then, bind-then, within-then, at-end}
@@ -27,14 +26,14 @@ use Rattle.header.specs.declared.shape.Placement.{Placement}
 use Rattle.header.specs.declared.blending.Blending.{Blending}
 use Rattle.header.specs.declared.blending.Decider.{Decider}
 use Rattle.header.specs.declared.closing.Closing.{Closing}
-use Rattle.header.specs.declared.parts.Front.{Front}
-use Rattle.header.specs.declared.parts.Back.{Back}
 use Rattle.header.specs.Arrays.{element, array}
 use Rattle.header.specs.Opening.{opening, upsamplings}
 use Rattle.header.specs.Shape.{passCounts, downsamples, lastPasses, passes, scales, placement}
-use Rattle.header.specs.Blending.{coversImage, resets, byOwn, byColour, blending}
+use Rattle.header.specs.Blending.{coversImage, resets, byOwn, sourceDecider, blending, extras}
 use Rattle.header.specs.Closing.{closing}
 use Rattle.header.specs.Header.{Header, Begun, Ended, sentUpsampling, shown, noBlending, front, back, header}
+use Rattle.header.proofs.Walks.{array-any}
+use Rattle.header.proofs.Whole.{channels-any}
 
 -- ---- tables of rows
 
@@ -82,13 +81,26 @@ module _ (s : List ℕ) (c : Cursor) where
 
 -- ---- arrays
 
--- element i of an array that was read
-pub array-columns : {R : Type 0} (k : Codec) (limit count d : ℕ) (col : R → ℕ → ℕ) (s : List ℕ) (c : Cursor) (r : R)
-    → ((i : ℕ) → i < count → col r i ≡ getD (read (array k limit count d col) s c .value) i d) → Columns (array k limit count d col) s c r
-unfolding element Columns read
-array-columns k limit count d col s c r h =
-    columns-times (element k limit d col) s r (Unit {0}) (col r) d (λ j at is. (λ on. is tt, tt)) count 0 c
-    (λ known i l. ap (col r) (zero-add i) ∙ h i l)
+-- what an array reads, whatever its columns
+abbrev words : Codec → ℕ → ℕ → ℕ → List ℕ → Cursor → Out (List ℕ)
+words k limit count d s c = read (array k limit count d (λ (x : List ℕ) (i : ℕ). 0)) s c
+
+module _ {R : Type 0} (k : Codec) (limit count d : ℕ) (col : R → ℕ → ℕ) (s : List ℕ) (c : Cursor) where
+  array-read : Reads (array k limit count d col) s c (record { value = words k limit count d s c .value; next = words k limit count d s c .next })
+  array-read = record { is = array-any k limit d col (λ (x : List ℕ) (i : ℕ). 0) count 0 s c }
+
+  module _ (r : R) (is : (i : ℕ) → i < count → col r i ≡ getD (words k limit count d s c .value) i d) where
+    -- the column of element i is the i-th word that was read
+    pub array-columns : Columns (array k limit count d col) s c r
+    unfolding element Columns read
+    array-columns =
+        columns-times (element k limit d col) s r (Unit {0}) (col r) d (λ j at here. (λ on. here tt, tt)) count 0 c
+        (λ known i l. ap (col r) (zero-add i) ∙ is i l ∙ ap (λ (o : Out (List ℕ)). getD (o .value) i d) (sym (array-read .is)))
+
+    -- and then the rest
+    pub array-then : {B : Type 0} (f : List ℕ → Table R B) → Columns (f (words k limit count d s c .value)) s (words k limit count d s c .next) r
+        → Columns (bind (array k limit count d col) f) s c r
+    array-then f rest = columns-bind (array k limit count d col) f s c r array-columns (rw (array-read .is) rest)
 
 module _ (on : Bool) (s : List ℕ) (c : Cursor) where
   abbrev count : Field
@@ -98,13 +110,13 @@ module _ (on : Bool) (s : List ℕ) (c : Cursor) where
   scaled = field s (not (eqb (count .value) 1)) (u32 downsamples) 0 (count .next)
 
   abbrev shifts : Out (List ℕ)
-  shifts = read (array (u 2) (count .value - 1) 10 0 (λ (r : Passes) i. getD (r .shift) i 0)) s (scaled .next)
+  shifts = words (u 2) (count .value - 1) 10 0 s (scaled .next)
 
   abbrev factors : Out (List ℕ)
-  factors = read (array (u32 upsamplings) (scaled .value) 4 0 (λ (r : Passes) i. getD (r .downsample) i 0)) s (shifts .next)
+  factors = words (u32 upsamplings) (scaled .value) 4 0 s (shifts .next)
 
   abbrev lasts : Out (List ℕ)
-  lasts = read (array (u32 lastPasses) (scaled .value) 4 0 (λ (r : Passes) i. getD (r .«last_pass») i 0)) s (factors .next)
+  lasts = words (u32 lastPasses) (scaled .value) 4 0 s (factors .next)
 
   abbrev all-passes : Passes
   all-passes = record {
@@ -120,9 +132,9 @@ module _ (on : Bool) (s : List ℕ) (c : Cursor) where
   passes-read =
       row-then count refl
       (row-then scaled refl
-      (bind-then _ _ (shifts .value) (shifts .next) (record { is = refl })
-      (bind-then _ _ (factors .value) (factors .next) (record { is = refl })
-      (bind-then _ _ (lasts .value) (lasts .next) (record { is = refl }) at-end))))
+      (bind-then _ _ (shifts .value) (shifts .next) (array-read _ _ 10 0 _ s _)
+      (bind-then _ _ (factors .value) (factors .next) (array-read _ _ 4 0 _ s _)
+      (bind-then _ _ (lasts .value) (lasts .next) (array-read _ _ 4 0 _ s _) at-end))))
 
   passes-given : Columns (passes on) s c all-passes
   unfolding passes Columns
@@ -130,9 +142,9 @@ module _ (on : Bool) (s : List ℕ) (c : Cursor) where
     λ on. refl,
     (
       λ on. refl,
-      columns-bind _ _ s (scaled .next) all-passes (array-columns (u 2) (count .value - 1) 10 0 _ s (scaled .next) all-passes (λ i l. refl))
-          (columns-bind _ _ s (shifts .next) all-passes (array-columns (u32 upsamplings) (scaled .value) 4 0 _ s (shifts .next) all-passes (λ i l. refl))
-          (columns-bind _ _ s (factors .next) all-passes (array-columns (u32 lastPasses) (scaled .value) 4 0 _ s (factors .next) all-passes (λ i l. refl)) tt)),
+      array-then (u 2) (count .value - 1) 10 0 _ s (scaled .next) all-passes (λ i l. refl) _
+          (array-then (u32 upsamplings) (scaled .value) 4 0 _ s (shifts .next) all-passes (λ i l. refl) _
+          (array-then (u32 lastPasses) (scaled .value) 4 0 _ s (factors .next) all-passes (λ i l. refl) _ tt)),
     ),
   )
 
@@ -146,7 +158,7 @@ module _ (f : Facts) (s : List ℕ) (c : Cursor) where
   opened = read (opening f) s c
 
   abbrev sized : Out (List ℕ)
-  sized = read (array (u32 upsamplings) (sentUpsampling f (opened .value)) (f .extra) 1 (λ (h : Header) i. getD (h .upsampling) i 1)) s (opened .next)
+  sized = words (u32 upsamplings) (sentUpsampling f (opened .value)) (f .extra) 1 s (opened .next)
 
   abbrev shaped : Out Scales
   shaped = read (scales f (opened .value)) s (sized .next)
@@ -167,7 +179,7 @@ module _ (f : Facts) (s : List ℕ) (c : Cursor) where
   unfolding front
   front-read =
       within-then _ _ _ (opened .value) (opened .next) (record { is = refl })
-      (bind-then _ _ (sized .value) (sized .next) (record { is = refl })
+      (bind-then _ _ (sized .value) (sized .next) (array-read _ _ (f .extra) 1 _ s _)
       (within-then _ _ _ (shaped .value) (shaped .next) (record { is = refl })
       (within-then _ _ _ (passed .value) (passed .next) (record { is = refl })
       (within-then _ _ _ (placed .value) (placed .next) (record { is = refl }) at-end))))
@@ -177,7 +189,7 @@ module _ (f : Facts) (s : List ℕ) (c : Cursor) where
   unfolding front Columns
   front-columns none h is ups =
       columns-inside _ _ _ s c h (rw is (opening-columns s c f none))
-      (columns-bind _ _ s (opened .next) h (array-columns _ _ (f .extra) 1 _ s (opened .next) h (λ i l. ap (λ (x : List ℕ). getD x i 1) ups))
+      (array-then (u32 upsamplings) _ (f .extra) 1 _ s (opened .next) h (λ i l. ap (λ (x : List ℕ). getD x i 1) ups) _
       (columns-inside _ _ _ s (sized .next) h (rw is (scales-columns s (sized .next) f (opened .value)))
       (columns-inside _ _ _ s (shaped .next) h (rw is (passes-columns _ s (shaped .next)))
       (columns-inside _ _ _ s (passed .next) h (rw is (placement-columns s (passed .next) f (opened .value))) tt))))
@@ -186,17 +198,14 @@ module _ (f : Facts) (o : Opening) (p : Placement) (s : List ℕ) (c : Cursor) w
   abbrev colour : Out Blending
   colour = read (blending (shown o) (not (eqb (f .extra) 0)) (coversImage f p) byOwn) s c
 
-  abbrev each : ℕ → Table Header Blending
-  each i = within (λ (h : Header). getD (h .blending) i noBlending) (blending (shown o) true (coversImage f p) (byColour (colour .value .mode)))
-
   abbrev channels : Out (List Blending)
-  channels = read (times (f .extra) 0 each) s (colour .next)
+  channels = read (extras (shown o) (f .extra) (coversImage f p) (sourceDecider f (colour .value .mode))) s (colour .next)
 
   abbrev closed : Out Closing
   closed = read (closing f o (resets (colour .value .mode) (coversImage f p))) s (channels .next)
 
   abbrev named : Out (List ℕ)
-  named = read (array (u 8) (closed .value .«name_length») (closed .value .«name_length») 0 (λ (h : Header) i. getD (h .name) i 0)) s (closed .next)
+  named = words (u 8) (closed .value .«name_length») (closed .value .«name_length») 0 s (closed .next)
 
   abbrev filtered : Out RestorationFilter
   filtered = read (restoration (eqb (o .«all_default») 0) (eqb (o .encoding) 1)) s (named .next)
@@ -215,9 +224,9 @@ module _ (f : Facts) (o : Opening) (p : Placement) (s : List ℕ) (c : Cursor) w
   unfolding back
   back-read =
       within-then _ _ _ (colour .value) (colour .next) (record { is = refl })
-      (bind-then _ _ (channels .value) (channels .next) (record { is = refl })
+      (bind-then _ _ (channels .value) (channels .next) (record { is = channels-any _ _ (f .extra) 0 s (colour .next) })
       (within-then _ _ _ (closed .value) (closed .next) (record { is = refl })
-      (bind-then _ _ (named .value) (named .next) (record { is = refl })
+      (bind-then _ _ (named .value) (named .next) (array-read _ _ (closed .value .«name_length») 0 _ s _)
       (within-then _ _ _ (filtered .value) (filtered .next) (record { is = refl })
       (within-then _ _ _ (skipped .value) (skipped .next) (record { is = refl }) at-end)))))
 
@@ -226,23 +235,33 @@ module _ (f : Facts) (o : Opening) (p : Placement) (s : List ℕ) (c : Cursor) w
     pub filter : FilterSent (eqb (o .«all_default») 0) (eqb (o .encoding) 1) s (named .next)
     pub extensions : field s (eqb (o .«all_default») 0) u64 0 (filtered .next) .value ≡ 0
 
-  channels-columns : (h : Header) → h .blending ≡ channels .value → Columns (times (f .extra) 0 each) s (colour .next) h
-  channels-columns h is =
-      columns-times each s h (Unit {0}) (λ j. getD (h .blending) j noBlending) noBlending
-      (λ j at here.
-      let own = blending (shown o) true (coversImage f p) (byColour (colour .value .mode)) in
-      columns-within (λ (h : Header). getD (h .blending) j noBlending) own s at h
-      (rw (here tt, read-within (λ (h : Header). getD (h .blending) j noBlending) own s at) (blending-columns s at (shown o) true (coversImage f p) (byColour (colour .value .mode)))))
-      (f .extra) 0 (colour .next)
-      (λ known k l. ap (λ (j : ℕ). getD (h .blending) j noBlending) (zero-add k) ∙ ap (λ (x : List Blending). getD x k noBlending) is)
+  -- an extra channel's numbers stand in one element, and then the rest
+  module _ (at : ℕ → Header → Blending) (h : Header) (is : (i : ℕ) → i < f .extra → at i h ≡ getD (channels .value) i noBlending) where
+    abbrev own : Table Blending Blending
+    own = blending (shown o) true (coversImage f p) (sourceDecider f (colour .value .mode))
+
+    channels-read : read (times (f .extra) 0 (λ i. within (at i) own)) s (colour .next) ≡ channels
+    channels-read = channels-any at own (f .extra) 0 s (colour .next)
+
+    channels-columns : Columns (times (f .extra) 0 (λ i. within (at i) own)) s (colour .next) h
+    channels-columns =
+        columns-times (λ i. within (at i) own) s h (Unit {0}) (λ i. at i h) noBlending
+        (λ j c here.
+        columns-within (at j) own s c h (rw (here tt, read-within (at j) own s c) (blending-columns s c (shown o) true (coversImage f p) (sourceDecider f (colour .value .mode)))))
+        (f .extra) 0 (colour .next)
+        (λ known k l. ap (λ (j : ℕ). at j h) (zero-add k) ∙ is k l ∙ ap (λ (x : Out (List Blending)). getD (x .value) k noBlending) (sym channels-read))
+
+    channels-then : {B : Type 0} (g : List Blending → Table Header B) → Columns (g (channels .value)) s (channels .next) h
+        → Columns (bind (times (f .extra) 0 (λ i. within (at i) own)) g) s (colour .next) h
+    channels-then g rest = columns-bind _ g s (colour .next) h channels-columns (rw channels-read rest)
 
   pub back-columns : BackSent → (h : Header) → h .back ≡ ended .back → h .blending ≡ ended .blending → h .name ≡ ended .name → Columns (back f o p) s c h
   unfolding back Columns
   back-columns sent h is blends names =
       columns-inside _ _ _ s c h (rw is (blending-columns s c (shown o) (not (eqb (f .extra) 0)) (coversImage f p) byOwn))
-      (columns-bind _ _ s (colour .next) h (channels-columns h blends)
+      (channels-then _ h (λ i l. ap (λ (x : List Blending). getD x i noBlending) blends) _
       (columns-inside _ _ _ s (channels .next) h (rw is (closing-columns s (channels .next) f o (resets (colour .value .mode) (coversImage f p))))
-      (columns-bind _ _ s (closed .next) h (array-columns _ _ (closed .value .«name_length») 0 _ s (closed .next) h (λ i l. ap (λ (x : List ℕ). getD x i 0) names))
+      (array-then (u 8) _ (closed .value .«name_length») 0 _ s (closed .next) h (λ i l. ap (λ (x : List ℕ). getD x i 0) names) _
       (columns-inside _ _ _ s (named .next) h (rw is (restoration-columns (eqb (o .«all_default») 0) (eqb (o .encoding) 1) s (named .next) (sent .filter)))
       (columns-inside _ _ _ s (filtered .next) h (extensions-columns s (eqb (o .«all_default») 0) (filtered .next) (sent .extensions)) tt)))))
 

@@ -23,6 +23,7 @@ use Rattle.bits.specs.Table.{Table, ends, Out, read, bind, times}
 use Rattle.bits.proofs.Bits.{there-parts}
 use Rattle.bits.proofs.Windows.{part-of}
 use Rattle.bits.proofs.Tables.{read-bind}
+use Rattle.bits.proofs.Columns.{times-any}
 use Rattle.bits.proofs.Reading.{field-lt, fault-stays}
 use Rattle.header.specs.declared.blending.Blending.{Blending}
 use Rattle.header.specs.declared.blending.BlendingRead.{BlendingRead}
@@ -182,13 +183,8 @@ module _ (count : ℕ) (s before : List ℕ) (c : Cursor) where
 -- an array reads the same whatever record it stands in
 pub array-any : {R R' : Type 0} (k : Codec) (limit d : ℕ) (col : R → ℕ → ℕ) (col' : R' → ℕ → ℕ) (count i : ℕ) (s : List ℕ) (c : Cursor)
     → read (times count i (element k limit d col)) s c ≡ read (times count i (element k limit d col')) s c
-unfolding times read element
-array-any k limit d col col' zero i s c = refl
-array-any k limit d col col' (suc count) i s c =
-    let f = field s (ltb i limit) k d c in
-    times-first count i (element k limit d col) s c (record { value = f .value; next = f .next }) refl
-    ∙ ap (λ (o : Out (List ℕ)). record { value = f .value ∷ o .value; next = o .next }) (array-any k limit d col col' count (suc i) s (f .next))
-    ∙ sym (times-first count i (element k limit d col') s c (record { value = f .value; next = f .next }) refl)
+unfolding read element
+array-any k limit d col col' count i s c = times-any (element k limit d col) (element k limit d col') s (λ j at. refl) count i c
 
 -- a table of just count words, after an array of count elements
 pub array-out : {R : Type 0} (k : Codec) (limit count d : ℕ) (col : R → ℕ → ℕ) (s : List ℕ) (c r : Cursor) (before after : List ℕ) → Arrayed k limit count d s c r before after

@@ -1,8 +1,8 @@
 -- The whole header: its parts one after the other, and what each leaves for its arrays.
-use Prim.Native.Nat.{ℕ, zero, suc}
-use mathlib.Core.Path.{_≡_, refl, sym, _∙_, ap}
+use Prim.Native.Nat.{ℕ}
+use mathlib.Core.Path.{_≡_, sym, _∙_, ap}
 use mathlib.Core.Bool.{true, not, _&&_}
-use mathlib.Core.List.{List, _∷_}
+use mathlib.Core.List.{List}
 use lib.Dec.{eqb}
 use lib.ListN.{getD}
 use Rattle.bits.specs.declared.Cursor.{Cursor}
@@ -11,6 +11,7 @@ use Rattle.bits.specs.Codec.{Codec, u, u32}
 use Rattle.bits.specs.Table.{Table, Out, read, bind, within, times}
 use Rattle.bits.specs.Extensions.{extensions}
 use Rattle.bits.proofs.Tables.{read-within}
+use Rattle.bits.proofs.Columns.{times-any}
 use Rattle.filter.specs.declared.FilterRead.{FilterRead}
 use Rattle.filter.specs.Filter.{restoration, filterRead}
 use Rattle.header.specs.declared.Facts.{Facts}
@@ -29,7 +30,7 @@ use Rattle.header.specs.Shape.{passes, passesRead, scales, scalesRead, p
 use Rattle.header.specs.Blending.{coversImage, resets, byOwn, sourceDecider, blending, blendingRead, extras, Extras}
 use Rattle.header.specs.Closing.{closing, closingRead}
 use Rattle.header.specs.Header.{Header, Begun, Ended, sentUpsampling, shown, front, back, Fronted, Backed}
-use Rattle.header.proofs.Walks.{array-any, read-then, times-first}
+use Rattle.header.proofs.Walks.{array-any, read-then}
 
 -- a bundle inside another, then another
 pub then-within : {R S A B : Type 0} (g : R → S) (t : Table S A) (f : A → Table R B) (s : List ℕ) (c : Cursor) (o : Out A) → o ≡ read t s c
@@ -42,15 +43,9 @@ pub array-passed : {R : Type 0} (k : Codec) (limit count d : ℕ) (col : R → �
 array-passed k limit count d col s c r before after a = rw (a .next) (array-any k limit d (λ (x : List ℕ) (i : ℕ). 0) col count 0 s c)
 
 -- extra channels read the same wherever their numbers stand
-channels-any : {R : Type 0} (g : ℕ → R → Blending) (t : Table Blending Blending) (n i : ℕ) (s : List ℕ) (c : Cursor)
+pub channels-any : {R : Type 0} (g : ℕ → R → Blending) (t : Table Blending Blending) (n i : ℕ) (s : List ℕ) (c : Cursor)
     → read (times n i (λ j. within (g j) t)) s c ≡ read (times n i (λ j. t)) s c
-unfolding times read
-channels-any g t zero i s c = refl
-channels-any g t (suc n) i s c =
-    let o = read t s c in
-    times-first n i (λ j. within (g j) t) s c o (sym (read-within (g i) t s c))
-    ∙ ap (λ (x : Out (List Blending)). record { value = o .value ∷ x .value; next = x .next }) (channels-any g t n (suc i) s (o .next))
-    ∙ sym (times-first n i (λ j. t) s c o refl)
+channels-any g t n i s c = times-any (λ j. within (g j) t) (λ j. t) s (λ j at. read-within (g j) t s at) n i c
 
 pub front-law : (s : List ℕ) (f : Facts) (b : Cursor) (a : OpeningRead) (y : Cursor) (w w' : List ℕ) (q : ScalesRead) (p : PassesRead) (c : PlacementRead)
     → b ≡ start 0
