@@ -5,7 +5,7 @@ leaves a log of each edit under target/must-fail/.
 An edit changes many functions at once: a caller is proved against what its callees promise, not against their code, so each changed function is
 refused for its own sake, whatever becomes of the others. The gate is content with one of them refused; so an edit names its functions (`refuses:`),
 and each has to be refused by itself: its own proof has an error at a fact (not at a law or a callee that was not admitted, and not at a name that
-the edit took away), or it has no proof file and the search closes one of its needs no longer.
+the edit took away), or it has no proof file and the search closes one of its needs no longer. So does each law that an edit of definitions names (`laws:`).
 
 Then, for every row of a table of PROMISES.md that has a column of edits: each function of the first column is named by at least two edits of its
 crate in the gate, and refused by itself in both. --more looks at the edits under must-fail/more instead (see tools/more.py), which are only asked
@@ -58,12 +58,16 @@ def main():
             continue
         text = open(log, encoding='utf-8').read()
         facts, names = refused(crate, text)
-        laws = [e for e in re.findall(r'^\S+?/proofs/\w+\.antt:\d+:\d+: error: (.*)', text, re.M) if 'was not admitted' not in e]
+        laws = {n for n, e in re.findall(r'^\S+?/proofs/\w+\.antt:\d+:\d+: error: `([^`]+)`: (.*)', text, re.M) if 'was not admitted' not in e}
         for n in sorted(names):
             wrong.append(f'{crate}/{name}: {n} is refused at a name, not at a fact')
         if not facts and not laws:
             wrong.append(f'{crate}/{name}: refused at no fact')
-        for function in ' '.join(re.findall(r'^refuses: (.*)', open(path, encoding='utf-8').read(), re.M)).split():
+        said = open(path, encoding='utf-8').read()
+        for law in ' '.join(re.findall(r'^laws: (.*)', said, re.M)).split():
+            if law not in laws:
+                wrong.append(f'{crate}/{name}: the law {law} is not refused by itself')
+        for function in ' '.join(re.findall(r'^refuses: (.*)', said, re.M)).split():
             by.setdefault((crate, function), []).append(name)
             if function not in facts:
                 wrong.append(f'{crate}/{name}: {function} is not refused by itself')
