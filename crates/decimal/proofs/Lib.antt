@@ -1,3 +1,4 @@
 pub mod Spelling
 pub mod Scanning
 pub mod Both
+pub mod Finding
