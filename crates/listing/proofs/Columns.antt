@@ -1,10 +1,10 @@
 -- Laws of numbers, columns and names put as text.
-use Prim.Native.Nat.{ℕ, _+_, _*_, _-_, _≤_, _<_, _^_}
+use Prim.Native.Nat.{ℕ, zero, suc, _+_, _*_, _-_, _≤_, _<_, _^_}
 use native.Mathlib.Numerals.{add-one}
 use native.Mathlib.Omega.{arith}
 use mathlib.Core.Path.{_≡_, refl, sym, _∙_, ap}
 use mathlib.Core.Bool.{Bool, true, false}
-use mathlib.Core.List.{List, [], _∷_, _++_}
+use mathlib.Core.List.{List, [], _∷_, _++_, map}
 use lib.ListN.{length, getD, set, take, drop, replicate, length-replicate, length-append, length-take, drop-of-length-le}
 use lib.Seq.{drop-at, drop-cons, take-all}
 use borrow.Author.Tests.{ne-eqb}
@@ -12,7 +12,7 @@ use Rattle.decimal.specs.declared.Digits.{Digits}
 use Rattle.decimal.specs.Decimal.{decimal, digitsOf}
 use Rattle.decimal.proofs.Spelling.{decimal-long}
 use Rattle.listing.specs.Put.{Put}
-use Rattle.listing.specs.Text.{column, cells, joined, kindName}
+use Rattle.listing.specs.Text.{joined, line, column, cells, kindName}
 use Rattle.listing.proofs.Putting.{then, put-one, named, Leaves, leaves-all, leaves-less, leaves-none}
 
 -- the digits at the end of their bytes
@@ -73,10 +73,10 @@ pub cells-all : (shown : List Bool) (numbers before : List ℕ) (at : ℕ) → C
 cells-all shown numbers before at = record { within = omega arith; small = omega arith; leaves = leaves-all before at (joined (cells shown numbers)) }
 
 module _ (shown : List Bool) (numbers before : List ℕ) (at : ℕ) (out : List ℕ) (end i : ℕ) (w : Cells shown numbers before at out end i) where
-  pub cells-less : {out' : List ℕ} {end' : ℕ} → length shown ≡ length numbers → i < length numbers → Put out end (9 ∷ column (getD shown i false) (getD numbers i 0)) out' end' × (end' ≤ end + 21)
+  pub cells-less : {out' : List ℕ} {end' : ℕ} → length numbers ≤ length shown → i < length numbers → Put out end (9 ∷ column (getD shown i false) (getD numbers i 0)) out' end' × (end' ≤ end + 21)
       → Cells shown numbers before at out' end' (i + 1)
   unfolding cells
-  cells-less {out'} {end'} same h p =
+  cells-less {out'} {end'} enough h p =
       let one : joined (cells (drop i shown) (drop i numbers)) ≡ (9 ∷ column (getD shown i false) (getD numbers i 0)) ++ joined (cells (drop (i + 1) shown) (drop (i + 1) numbers)) =
       rw (add-one i, drop-cons shown i false (omega arith), drop-cons numbers i 0 h) in
       record {
@@ -85,9 +85,18 @@ module _ (shown : List Bool) (numbers before : List ℕ) (at : ℕ) (out : List 
         leaves = leaves-less (joined (cells (drop (i + 1) shown) (drop (i + 1) numbers))) (rw one at (w .leaves)) (p .0);
       }
 
-  pub cells-none : {out' : List ℕ} {end' : ℕ} → length shown ≡ length numbers → length numbers ≤ i → Put out end (10 ∷ []) out' end'
+  pub cells-none : {out' : List ℕ} {end' : ℕ} → length numbers ≤ i → Put out end (10 ∷ []) out' end'
       → Put before at (joined (cells shown numbers)) out' end' × (end' ≤ at + 21 * length numbers + 1)
   unfolding cells
-  cells-none same h p =
-      let past : length shown ≤ i = omega arith in
-      (leaves-none (leaves-less [] (rw (drop-of-length-le shown past) at (w .leaves)) p), omega (arith, w .small, w .within, p .behind))
+  cells-none h p = (leaves-none (leaves-less [] (rw (drop-of-length-le numbers h) at (w .leaves)) p), omega (arith, w .small, w .within, p .behind))
+
+-- all are shown
+cells-shown : (k : ℕ) (numbers : List ℕ) → length numbers ≤ k → cells (replicate k true) numbers ≡ map decimal numbers
+unfolding cells column
+cells-shown k [] h = refl
+cells-shown zero (n ∷ numbers) h = absurd (omega arith)
+cells-shown (suc k) (n ∷ numbers) h = ap (λ (l : List (List ℕ)). decimal n ∷ l) (cells-shown k numbers (omega arith))
+
+pub line-put : {l m n word : List ℕ} {i j k z : ℕ} (few : ℕ) (numbers : List ℕ) → length numbers ≤ few → Put l i word m j → Put m j (joined (cells (replicate few true) numbers)) n k × (k ≤ z)
+    → Put l i (line word (map decimal numbers)) n k
+line-put few numbers h p q = then p (named (ap joined (cells-shown few numbers h)) (q .0))

@@ -23,8 +23,8 @@ column shown n = pick shown (decimal n) (45 ∷ [])
 
 -- columns of numbers, each shown or not
 unfoldable pub cells : List Bool → List ℕ → List (List ℕ)
-cells [] numbers = []
-cells (s ∷ shown) [] = []
+cells shown [] = []
+cells [] (n ∷ numbers) = []
 cells (s ∷ shown) (n ∷ numbers) = column s n ∷ cells shown numbers
 
 -- the first line: `section`, `kind`, `pass`, `group`, `sent`, `offset`, `size`, `left`, `top`, `width`, `height`

@@ -12,12 +12,13 @@ use rows::put_rows;
 pub use rows::row_at;
 use rows::sum_sizes;
 ghost use mathlib.Core.Path.{_≡_};
-ghost use mathlib.Core.List.{[], _∷_};
+ghost use mathlib.Core.List.{map};
 ghost use Prim.Native.Nat.{_≤_};
 ghost use lib.ListN.{length};
 ghost use Rattle.bits.specs.Refusals.{none};
+ghost use Rattle.decimal.specs.Decimal.{decimal};
 ghost use Rattle.listing.specs.Put.{Put, Texted, fitted, answerBy};
-ghost use Rattle.listing.specs.Text.{line, cells, heading, refusedText, orderText};
+ghost use Rattle.listing.specs.Text.{line, heading, refusedText, orderText};
 ghost use Rattle.listing.specs.Listed.{listing, listingText, listingRefusal};
 
 // How many bytes the text has, or why nothing was written (beside a refusal, 0).
@@ -41,44 +42,43 @@ fn whole_text(n: usize) -> TextAnswer
     }
 }
 
-// A line of a word and numbers.
-fn put_line(out: &mut [u8], at: usize, word: &[u8], shown: &[bool], numbers: &[u64]) -> usize
-    requires { ⌜ (at ≤ 576460752303423488) × (length (now word) ≤ 4096) × (length (now numbers) ≤ 4096) × (length (now shown) ≡ length (now numbers)) ⌝ }
-    ensures { λ r. ⌜ Put (now (out .entry)) at (line (now (word .entry)) (cells (now (shown .entry)) (now (numbers .entry)))) (now (out .exit)) r ⌝ }
+// A line of a word and a few numbers.
+fn put_line(out: &mut [u8], at: usize, word: &[u8], numbers: &[u64]) -> usize
+    requires { ⌜ (at ≤ 576460752303423488) × (length (now word) ≤ 4096) × (length (now numbers) ≤ 4) ⌝ }
+    ensures { λ r. ⌜ Put (now (out .entry)) at (line (now (word .entry)) (map decimal (now (numbers .entry)))) (now (out .exit)) r ⌝ }
 {
     let a = put_bytes(out, at, word);
-    put_columns(out, a, shown, numbers)
+    put_columns(out, a, &[true; 4], numbers)
 }
 
 // Such a line alone; 3 where it doesn't fit.
-fn write_line(word: &[u8], shown: &[bool], numbers: &[u64], out: &mut [u8]) -> TextAnswer
-    requires { ⌜ (length (now word) ≤ 4096) × (length (now numbers) ≤ 4096) × (length (now shown) ≡ length (now numbers)) ⌝ }
+fn write_line(word: &[u8], numbers: &[u64], out: &mut [u8]) -> TextAnswer
+    requires { ⌜ (length (now word) ≤ 4096) × (length (now numbers) ≤ 4) ⌝ }
     ensures { λ a. ⌜
-        Texted (fitted (line (now (word .entry)) (cells (now (shown .entry)) (now (numbers .entry)))) (now (out .entry)))
-        (line (now (word .entry)) (cells (now (shown .entry)) (now (numbers .entry)))) (now (out .entry)) a (now (out .exit))
+        Texted (fitted (line (now (word .entry)) (map decimal (now (numbers .entry)))) (now (out .entry)))
+        (line (now (word .entry)) (map decimal (now (numbers .entry)))) (now (out .entry)) a (now (out .exit))
         ⌝ }
 {
     let mut nowhere = [0u8; 1];
-    let length = put_line(&mut nowhere, 0, word, shown, numbers);
+    let length = put_line(&mut nowhere, 0, word, numbers);
     if out.len() < length {
         return refused_text(bits::refused(3, 0));
     }
-    whole_text(put_line(out, 0, word, shown, numbers))
+    whole_text(put_line(out, 0, word, numbers))
 }
 
 // `refused`, number, place; 3 where the line doesn't fit.
 pub fn write_refused(r: Refusal, out: &mut [u8]) -> TextAnswer
     ensures { λ a. ⌜ Texted (fitted (refusedText r) (now (out .entry))) (refusedText r) (now (out .entry)) a (now (out .exit)) ⌝ }
 {
-    let numbers = [r.number as u64, r.place];
-    write_line(b"refused", &[true, true], &numbers, out)
+    write_line(b"refused", &[r.number as u64, r.place], out)
 }
 
 // `order` and the place after the flag, where the frame needs an order; 3 where the line doesn't fit.
 pub fn write_order_needed(place: u64, out: &mut [u8]) -> TextAnswer
     ensures { λ a. ⌜ Texted (fitted (orderText place) (now (out .entry))) (orderText place) (now (out .entry)) a (now (out .exit)) ⌝ }
 {
-    write_line(b"order", &[true], &[place], out)
+    write_line(b"order", &[place], out)
 }
 
 fn put_heading(out: &mut [u8]) -> usize
@@ -105,7 +105,7 @@ fn put_listing(
 {
     let a = put_heading(out);
     let b = put_rows(out, a, f, count, offsets, sizes, order);
-    put_line(out, b, b"total", &[true], &[sum_sizes(sizes, count)])
+    put_line(out, b, b"total", &[sum_sizes(sizes, count)])
 }
 
 // The listing of an accepted table: 8, 9, 10, then 3 where a table has too few words or the text doesn't fit, then 13.

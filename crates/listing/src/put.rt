@@ -50,7 +50,7 @@ pub fn put_column(out: &mut [u8], at: usize, shown: bool, n: u64) -> usize
 
 // Columns to the end of a line: for each number a tab, and the number where it is shown, else `-`; then the line feed.
 pub fn put_columns(out: &mut [u8], at: usize, shown: &[bool], numbers: &[u64]) -> usize
-    requires { ⌜ (at ≤ 1152921504606846976) × (length (now numbers) ≤ 4096) × (length (now shown) ≡ length (now numbers)) ⌝ }
+    requires { ⌜ (at ≤ 1152921504606846976) × (length (now numbers) ≤ length (now shown)) × (length (now shown) ≤ 4096) ⌝ }
     ensures { λ r. ⌜ Put (now (out .entry)) at (joined (cells (now (shown .entry)) (now (numbers .entry)))) (now (out .exit)) r × (r ≤ at + 21 * length (now (numbers .entry)) + 1) ⌝ }
 {
     let mut end = at;

@@ -22,7 +22,7 @@ loop-again c =
     let turn = c .before .before .before .before .before .before .before in
     let start = turn .before .before .before .before in
     let a = start .args in
-    cells-less (a .shown .now) (a .numbers .now) (a .out .now) (a .at) (turn .loop .out) (turn .loop .end) (turn .loop .i) (turn .loop .inv) (start .pre .2)
+    cells-less (a .shown .now) (a .numbers .now) (a .out .now) (a .at) (turn .loop .out) (turn .loop .end) (turn .loop .i) (turn .loop .inv) (start .pre .1)
     (c .before .before .before .before .before .before .loop-test .taken) (c .before .before .put-column .ensures)
 
 same-length : tie.Need-same-length Inv-loop μ-loop
@@ -33,7 +33,7 @@ returns c =
     let end = c .before .before .before .before .before in
     let start = end .before .before .before .before in
     let a = start .args in
-    cells-none (a .shown .now) (a .numbers .now) (a .out .now) (a .at) (end .loop .out) (end .loop .end) (end .loop .i) (end .loop .inv) (start .pre .2)
+    cells-none (a .shown .now) (a .numbers .now) (a .out .now) (a .at) (end .loop .out) (end .loop .end) (end .loop .i) (end .loop .inv)
     (c .before .before .before .before .loop-test .left) (c .before .before .put-feed .ensures)
 
 pub put-columns-spec : {M : Type 1} → statement M
