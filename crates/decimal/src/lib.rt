@@ -5,11 +5,19 @@ ghost use Prim.Native.Nat.{_+_, _*_, _-_, _<_, _≤_};
 ghost use mathlib.Core.Bool.{_&&_};
 ghost use lib.Dec.{leb};
 ghost use Rattle.decimal.specs.Decimal.{digitsOf, parsed, isDigit, leads};
+ghost use Rattle.decimal.specs.UpTo.{findAt, numberAt};
 
 // A number that was read; where the text is no number, or one over the limit, not good and 0.
 pub struct Parsed {
     pub good: bool,
     pub value: u64,
+}
+
+// A number that stood within a text, and the index behind the byte that ended it.
+pub struct Step {
+    pub good: bool,
+    pub value: u64,
+    pub next: usize,
 }
 
 // The digits of a number: the text begins at start and runs to the end; the bytes before it are 0.
@@ -87,6 +95,40 @@ pub fn read_number(s: &[u8], limit: u64) -> Parsed
     Parsed {
         good: true,
         value: v,
+    }
+}
+
+// The index of the first such byte from an index on: the text's length where there is none, and an index past the end as it is.
+pub fn find(s: &[u8], at: usize, stop: u8) -> usize
+    ensures { λ r. ⌜ r ≡ findAt (now (s .entry)) at stop ⌝ }
+{
+    let mut i = at;
+    while i < s.len() {
+        if s[i] == stop {
+            return i;
+        }
+        i += 1;
+    }
+    i
+}
+
+// The number of at most limit that stands from an index on, up to the byte that has to end it.
+pub fn number_at(s: &[u8], at: usize, stop: u8, limit: u64) -> Step
+    ensures { λ r. ⌜ r ≡ numberAt (now (s .entry)) at stop limit ⌝ }
+{
+    let end = find(s, at, stop);
+    if s.len() <= end {
+        return Step {
+            good: false,
+            value: 0,
+            next: end,
+        };
+    }
+    let p = read_number(&s[at..end], limit);
+    Step {
+        good: p.good,
+        value: p.value,
+        next: end + 1,
     }
 }
 

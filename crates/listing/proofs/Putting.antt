@@ -1,12 +1,12 @@
 -- Laws of texts put one behind the other.
-use Prim.Native.Nat.{ℕ, zero, suc, _+_, _≤_, _<_}
+use Prim.Native.Nat.{ℕ, suc, _+_}
 use native.Mathlib.Omega.{arith}
 use native.Mathlib.Nat.{add-zero}
-use native.Mathlib.Numerals.{add-one}
 use mathlib.Core.Path.{_≡_, refl, sym, _∙_, ap}
 use mathlib.Core.List.{List, [], _∷_, _++_}
-use lib.ListN.{length, getD, set, drop, length-append, length-set}
-use lib.Seq.{sets, drop-cons, drop-length, length-sets}
+use lib.ListN.{length, set, length-append}
+use lib.Seq.{sets, length-sets}
+use Rattle.fill.proofs.Filling.{Filling, filling-none}
 use Rattle.listing.specs.Put.{Put}
 
 pub sets-behind : (l : List ℕ) (i : ℕ) (a b : List ℕ) → sets (sets l i a) (i + length a) b ≡ sets l i (a ++ b)
@@ -33,36 +33,23 @@ put-length {l} {m} {a} {i} p = ap length (p .bytes) ∙ length-sets l i a
 pub named : {l m a b : List ℕ} {i j : ℕ} → a ≡ b → Put l i a m j → Put l i b m j
 named {l} {m} {a} {b} {i} {j} e p = record { bytes = rw (← e) (p .bytes); behind = rw (← e) (p .behind) }
 
--- ---- the walk over a text
+-- ---- a walk that puts a text piece by piece
 
--- what of the text is still to be put, from its byte i on
-pub record Puts (before : List ℕ) (at : ℕ) (text out : List ℕ) (i : ℕ) : Type 0 where
-  pub within : i ≤ length text
-  pub size : length out ≡ length before
-  pub left : sets before at text ≡ sets out (at + i) (drop i text)
+-- the rest of a text is still to be put, from end on
+pub record Leaves (before : List ℕ) (at : ℕ) (all out : List ℕ) (end : ℕ) (rest : List ℕ) : Type 0 where
+  pub filling : Filling before at all out end rest
+  pub long : at + length all ≡ end + length rest
 
-pub puts-none : (before : List ℕ) (at : ℕ) (text : List ℕ) → Puts before at text before 0
-puts-none before at text = record { within = omega arith; size = refl; left = ap (λ (k : ℕ). sets before k text) (sym (add-zero at)) }
+pub leaves-all : (before : List ℕ) (at : ℕ) (all : List ℕ) → Leaves before at all before at all
+leaves-all before at all = record { filling = filling-none before at all; long = refl }
 
-module _ (before : List ℕ) (at : ℕ) (text out : List ℕ) (i : ℕ) (w : Puts before at text out i) where
-  pub puts-more : (out' : List ℕ) → i < length text → out' ≡ set out (at + i) (getD text i 0) → Puts before at text out' (i + 1)
-  puts-more out' h e =
-      let k : suc (at + i) ≡ at + (i + 1) = omega arith in
-      record {
-        within = omega arith;
-        size = ap length e ∙ length-set out (at + i) (getD text i 0) ∙ w .size;
-        left =
-            w .left
-            ∙ ap (λ (t : List ℕ). sets out (at + i) t) (drop-cons text i 0 h)
-            ∙ ap (λ (o : List ℕ). sets o (suc (at + i)) (drop (suc i) text)) (sym e)
-            ∙ ap (λ (n : ℕ). sets out' n (drop (suc i) text)) k
-            ∙ ap (λ (n : ℕ). sets out' (at + (i + 1)) (drop n text)) (sym (add-one i));
-      }
+pub leaves-less : {before all out out' text : List ℕ} {at end end' : ℕ} (rest : List ℕ) → Leaves before at all out end (text ++ rest) → Put out end text out' end'
+    → Leaves before at all out' end' rest
+leaves-less {before} {all} {out} {out'} {text} {at} {end} {end'} rest w p =
+    record {
+      filling = record { left = w .filling .left ∙ sym (sets-behind out end text rest) ∙ rw (p .bytes, p .behind); size = put-length p ∙ w .filling .size };
+      long = omega (arith, w .long, p .behind, length-append text rest);
+    }
 
-  pub puts-all : length text ≤ i → Put before at text out (at + i)
-  puts-all h =
-      let end : i ≡ length text = omega (arith, w .within) in
-      record {
-        bytes = sym (w .left ∙ ap (λ (n : ℕ). sets out (at + i) (drop n text)) end ∙ ap (λ (t : List ℕ). sets out (at + i) t) (drop-length text));
-        behind = ap (λ (n : ℕ). at + n) end;
-      }
+pub leaves-none : {before all out : List ℕ} {at end : ℕ} → Leaves before at all out end [] → Put before at all out end
+leaves-none w = record { bytes = sym (w .filling .left); behind = omega (arith, w .long) }

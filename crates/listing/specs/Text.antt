@@ -5,7 +5,6 @@ use mathlib.Core.List.{List, [], _∷_, _++_}
 use lib.Dec.{eqb}
 use Rattle.bits.specs.declared.Refusal.{Refusal}
 use Rattle.bits.specs.Refusals.{pick}
-use Rattle.grid.specs.declared.Rect.{Rect}
 use Rattle.decimal.specs.Decimal.{decimal}
 use Rattle.listing.specs.declared.rows.Row.{Row}
 
@@ -21,6 +20,12 @@ line first more = first ++ joined more
 -- a column with a number, or `-` (45) where it has nothing
 unfoldable pub column : Bool → ℕ → List ℕ
 column shown n = pick shown (decimal n) (45 ∷ [])
+
+-- columns of numbers, each shown or not
+unfoldable pub cells : List Bool → List ℕ → List (List ℕ)
+cells shown [] = []
+cells [] (n ∷ numbers) = []
+cells (s ∷ shown) (n ∷ numbers) = column s n ∷ cells shown numbers
 
 -- the first line: `section`, `kind`, `pass`, `group`, `sent`, `offset`, `size`, `left`, `top`, `width`, `height`
 unfoldable pub heading : List ℕ
@@ -76,9 +81,12 @@ rowText r =
     ∷ column (hasRect (r .kind)) (r .rect .height)
     ∷ [])
 
--- its last four columns with the line feed
-unfoldable pub rectText : Bool → Rect → List ℕ
-rectText shown r = joined (column shown (r .left) ∷ column shown (r .top) ∷ column shown (r .width) ∷ column shown (r .height) ∷ [])
+-- the columns behind the kind's name: whether each is shown, and its number
+unfoldable pub shownBy : ℕ → List Bool
+shownBy kind = hasPass kind ∷ hasGroup kind ∷ true ∷ true ∷ true ∷ hasRect kind ∷ hasRect kind ∷ hasRect kind ∷ hasRect kind ∷ []
+
+unfoldable pub numbersIn : Row → List ℕ
+numbersIn r = r .«pass_idx» ∷ r .«group_idx» ∷ r .sent ∷ r .offset ∷ r .size ∷ r .rect .left ∷ r .rect .top ∷ r .rect .width ∷ r .rect .height ∷ []
 
 -- n lines from section i on
 unfoldable pub rowsFrom : (ℕ → Row) → ℕ → ℕ → List ℕ

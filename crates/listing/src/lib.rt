@@ -6,17 +6,19 @@ mod rows;
 use bits::Refusal;
 use grid::Frame;
 use put::put_bytes;
-use put::put_column;
-use put::put_feed;
+use put::put_columns;
+pub use rows::Row;
 use rows::put_rows;
+pub use rows::row_at;
 use rows::sum_sizes;
 ghost use mathlib.Core.Path.{_≡_};
-ghost use mathlib.Core.List.{[], _∷_};
+ghost use mathlib.Core.List.{map};
 ghost use Prim.Native.Nat.{_≤_};
 ghost use lib.ListN.{length};
 ghost use Rattle.bits.specs.Refusals.{none};
+ghost use Rattle.decimal.specs.Decimal.{decimal};
 ghost use Rattle.listing.specs.Put.{Put, Texted, fitted, answerBy};
-ghost use Rattle.listing.specs.Text.{heading, totalText, refusedText, orderText};
+ghost use Rattle.listing.specs.Text.{line, heading, refusedText, orderText};
 ghost use Rattle.listing.specs.Listed.{listing, listingText, listingRefusal};
 
 // How many bytes the text has, or why nothing was written (beside a refusal, 0).
@@ -40,47 +42,43 @@ fn whole_text(n: usize) -> TextAnswer
     }
 }
 
-// `refused`, number, place.
-fn put_refused(out: &mut [u8], r: Refusal) -> usize
-    ensures { λ r'. ⌜ Put (now (out .entry)) 0 (refusedText r) (now (out .exit)) r' ⌝ }
+// A line of a word and a few numbers.
+fn put_line(out: &mut [u8], at: usize, word: &[u8], numbers: &[u64]) -> usize
+    requires { ⌜ (at ≤ 576460752303423488) × (length (now word) ≤ 4096) × (length (now numbers) ≤ 4) ⌝ }
+    ensures { λ r. ⌜ Put (now (out .entry)) at (line (now (word .entry)) (map decimal (now (numbers .entry)))) (now (out .exit)) r ⌝ }
 {
-    let a = put_bytes(out, 0, b"refused");
-    let b = put_column(out, a, true, r.number as u64);
-    let c = put_column(out, b, true, r.place);
-    put_feed(out, c)
+    let a = put_bytes(out, at, word);
+    put_columns(out, a, &[true; 4], numbers)
 }
 
-// The line of a refusal; 3 where it doesn't fit.
+// Such a line alone; 3 where it doesn't fit.
+fn write_line(word: &[u8], numbers: &[u64], out: &mut [u8]) -> TextAnswer
+    requires { ⌜ (length (now word) ≤ 4096) × (length (now numbers) ≤ 4) ⌝ }
+    ensures { λ a. ⌜
+        Texted (fitted (line (now (word .entry)) (map decimal (now (numbers .entry)))) (now (out .entry)))
+        (line (now (word .entry)) (map decimal (now (numbers .entry)))) (now (out .entry)) a (now (out .exit))
+        ⌝ }
+{
+    let mut nowhere = [0u8; 1];
+    let length = put_line(&mut nowhere, 0, word, numbers);
+    if out.len() < length {
+        return refused_text(bits::refused(3, 0));
+    }
+    whole_text(put_line(out, 0, word, numbers))
+}
+
+// `refused`, number, place; 3 where the line doesn't fit.
 pub fn write_refused(r: Refusal, out: &mut [u8]) -> TextAnswer
     ensures { λ a. ⌜ Texted (fitted (refusedText r) (now (out .entry))) (refusedText r) (now (out .entry)) a (now (out .exit)) ⌝ }
 {
-    let mut nowhere = [0u8; 1];
-    let length = put_refused(&mut nowhere, r);
-    if out.len() < length {
-        return refused_text(bits::refused(3, 0));
-    }
-    whole_text(put_refused(out, r))
+    write_line(b"refused", &[r.number as u64, r.place], out)
 }
 
-// `order`, place.
-fn put_order(out: &mut [u8], place: u64) -> usize
-    ensures { λ r. ⌜ Put (now (out .entry)) 0 (orderText place) (now (out .exit)) r ⌝ }
-{
-    let a = put_bytes(out, 0, b"order");
-    let b = put_column(out, a, true, place);
-    put_feed(out, b)
-}
-
-// The line that says that the frame needs an order, with the place after its flag; 3 where it doesn't fit.
+// `order` and the place after the flag, where the frame needs an order; 3 where the line doesn't fit.
 pub fn write_order_needed(place: u64, out: &mut [u8]) -> TextAnswer
     ensures { λ a. ⌜ Texted (fitted (orderText place) (now (out .entry))) (orderText place) (now (out .entry)) a (now (out .exit)) ⌝ }
 {
-    let mut nowhere = [0u8; 1];
-    let length = put_order(&mut nowhere, place);
-    if out.len() < length {
-        return refused_text(bits::refused(3, 0));
-    }
-    whole_text(put_order(out, place))
+    write_line(b"order", &[place], out)
 }
 
 fn put_heading(out: &mut [u8]) -> usize
@@ -91,15 +89,6 @@ fn put_heading(out: &mut [u8]) -> usize
         0,
         b"section\tkind\tpass\tgroup\tsent\toffset\tsize\tleft\ttop\twidth\theight\n",
     )
-}
-
-fn put_total(out: &mut [u8], at: usize, total: u64) -> usize
-    requires { ⌜ at ≤ 1152921504606846976 ⌝ }
-    ensures { λ r. ⌜ Put (now (out .entry)) at (totalText total) (now (out .exit)) r ⌝ }
-{
-    let a = put_bytes(out, at, b"total");
-    let b = put_column(out, a, true, total);
-    put_feed(out, b)
 }
 
 // The whole listing, its sections as they stand in the tables.
@@ -116,7 +105,7 @@ fn put_listing(
 {
     let a = put_heading(out);
     let b = put_rows(out, a, f, count, offsets, sizes, order);
-    put_total(out, b, sum_sizes(sizes, count))
+    put_line(out, b, b"total", &[sum_sizes(sizes, count)])
 }
 
 // The listing of an accepted table: 8, 9, 10, then 3 where a table has too few words or the text doesn't fit, then 13.

@@ -2,31 +2,19 @@
 // serves to measure, on bytes that are too few, and to write. Each answers the index behind what it put.
 ghost use mathlib.Core.Path.{_≡_};
 ghost use mathlib.Core.List.{[], _∷_};
-ghost use Prim.Native.Nat.{_+_, _≤_};
-ghost use lib.ListN.{length, set};
+ghost use Prim.Native.Nat.{_+_, _*_, _≤_};
+ghost use lib.ListN.{length};
 ghost use Rattle.decimal.specs.Decimal.{decimal};
 ghost use Rattle.listing.specs.Put.{Put};
-ghost use Rattle.listing.specs.Text.{column, kindName};
-
-fn put(out: &mut [u8], at: usize, b: u8)
-    ensures { λ _. ⌜ now (out .exit) ≡ set (now (out .entry)) at b ⌝ }
-{
-    if at < out.len() {
-        out[at] = b;
-    }
-}
+ghost use Rattle.listing.specs.Text.{column, cells, joined, kindName};
 
 pub fn put_bytes(out: &mut [u8], at: usize, text: &[u8]) -> usize
     requires { ⌜ at ≤ 4611686018427387904 ⌝ }
     requires { ⌜ length (now text) ≤ 4096 ⌝ }
     ensures { λ r. ⌜ Put (now (out .entry)) at (now (text .entry)) (now (out .exit)) r ⌝ }
 {
-    let mut i: usize = 0;
-    while i < text.len() {
-        put(out, at + i, text[i]);
-        i += 1;
-    }
-    at + i
+    fill::fill_u8(out, at, text);
+    at + text.len()
 }
 
 // The line feed that ends a line.
@@ -34,7 +22,7 @@ pub fn put_feed(out: &mut [u8], at: usize) -> usize
     requires { ⌜ at ≤ 4611686018427387904 ⌝ }
     ensures { λ r. ⌜ Put (now (out .entry)) at (10 ∷ []) (now (out .exit)) r ⌝ }
 {
-    put(out, at, 10);
+    fill::put_u8(out, at, 10);
     at + 1
 }
 
@@ -56,8 +44,22 @@ pub fn put_column(out: &mut [u8], at: usize, shown: bool, n: u64) -> usize
     if !shown {
         return put_bytes(out, at, b"\t-");
     }
-    put(out, at, 9);
+    fill::put_u8(out, at, 9);
     put_number(out, at + 1, n)
+}
+
+// Columns to the end of a line: for each number a tab, and the number where it is shown, else `-`; then the line feed.
+pub fn put_columns(out: &mut [u8], at: usize, shown: &[bool], numbers: &[u64]) -> usize
+    requires { ⌜ (at ≤ 1152921504606846976) × (length (now numbers) ≤ length (now shown)) × (length (now shown) ≤ 4096) ⌝ }
+    ensures { λ r. ⌜ Put (now (out .entry)) at (joined (cells (now (shown .entry)) (now (numbers .entry)))) (now (out .exit)) r × (r ≤ at + 21 * length (now (numbers .entry)) + 1) ⌝ }
+{
+    let mut end = at;
+    let mut i: usize = 0;
+    while i < numbers.len() {
+        end = put_column(out, end, shown[i], numbers[i]);
+        i += 1;
+    }
+    put_feed(out, end)
 }
 
 // A tab, and a kind by its name.

@@ -1,6 +1,5 @@
 // A section's line: what it shows, and how it is put.
-use crate::put::put_column;
-use crate::put::put_feed;
+use crate::put::put_columns;
 use crate::put::put_name;
 use crate::put::put_number;
 use grid::Frame;
@@ -14,19 +13,19 @@ ghost use Rattle.bits.specs.Refusals.{pick};
 ghost use Rattle.grid.specs.Measured.{gridOf};
 ghost use Rattle.order.specs.Sums.{sumTo};
 ghost use Rattle.listing.specs.Put.{Put};
-ghost use Rattle.listing.specs.Text.{rectText, rowText, rowsFrom, hasPass, hasGroup, hasRect};
+ghost use Rattle.listing.specs.Text.{shownBy, numbersIn, rowText, rowsFrom};
 ghost use Rattle.listing.specs.Listed.{rectBy, rowAt};
 
-// What a line shows: a section's numbers, its kind as a number, 0 where a column has nothing.
-struct Row {
-    section: u32,
-    kind: u32,
-    pass_idx: u32,
-    group_idx: u32,
-    sent: u32,
-    offset: u64,
-    size: u32,
-    rect: Rect,
+// What a section's line shows: its number, its kind as a number, its words of the three tables and its rectangle; 0 where a column has nothing.
+pub struct Row {
+    pub section: u32,
+    pub kind: u32,
+    pub pass_idx: u32,
+    pub group_idx: u32,
+    pub sent: u32,
+    pub offset: u64,
+    pub size: u32,
+    pub rect: Rect,
 }
 
 // A word of a table, 0 past its end.
@@ -81,8 +80,8 @@ fn rect_of(f: Frame, k: KindNumbers) -> Rect
     }
 }
 
-// What the listing shows of a section.
-fn row_at(f: Frame, offsets: &[u64], sizes: &[u32], order: &[u32], i: u32) -> Row
+// What the listing shows of a section. The frame and the tables are taken as they are: 0 where a table has no such word.
+pub fn row_at(f: Frame, offsets: &[u64], sizes: &[u32], order: &[u32], i: u32) -> Row
     ensures { λ r. ⌜ r ≡ rowAt f (now (offsets .entry)) (now (sizes .entry)) (now (order .entry)) i ⌝ }
 {
     let answer = sections::kind_of(f, SectionNumber(i));
@@ -104,38 +103,44 @@ fn row_at(f: Frame, offsets: &[u64], sizes: &[u32], order: &[u32], i: u32) -> Ro
     }
 }
 
-// The last four columns and the line feed.
-fn put_rect(out: &mut [u8], at: usize, shown: bool, r: Rect) -> usize
-    requires { ⌜ at ≤ 1152921504606846976 ⌝ }
-    ensures { λ n. ⌜ Put (now (out .entry)) at (rectText shown r) (now (out .exit)) n × (n ≤ at + 85) ⌝ }
+// Which columns behind a kind's name are shown: a GroupPass shows its pass, it and an LfGroup their group, and these and All their rectangle.
+fn shown_by(kind: u32) -> [bool; 9]
+    ensures { λ r. ⌜ r ≡ shownBy kind ⌝ }
 {
-    let a = put_column(out, at, shown, r.left as u64);
-    let b = put_column(out, a, shown, r.top as u64);
-    let c = put_column(out, b, shown, r.width as u64);
-    let d = put_column(out, c, shown, r.height as u64);
-    put_feed(out, d)
+    let pass = kind == 4;
+    let group = bits::either(kind == 2, pass);
+    let rect = bits::either(kind == 0, group);
+    [pass, group, true, true, true, rect, rect, rect, rect]
 }
 
-fn shows_group(kind: u32) -> bool
-    ensures { λ r. ⌜ r ≡ hasGroup kind ⌝ }
+// The numbers of these columns.
+fn numbers_in(r: Row) -> [u64; 9]
+    ensures { λ n. ⌜ n ≡ numbersIn r ⌝ }
 {
-    bits::either(kind == 2, kind == 4)
+    let rect = r.rect;
+    [
+        r.pass_idx as u64,
+        r.group_idx as u64,
+        r.sent as u64,
+        r.offset,
+        r.size as u64,
+        rect.left as u64,
+        rect.top as u64,
+        rect.width as u64,
+        rect.height as u64,
+    ]
 }
 
+// A section's line.
 fn put_row(out: &mut [u8], at: usize, r: Row) -> usize
     requires { ⌜ at ≤ 576460752303423488 ⌝ }
     ensures { λ n. ⌜ Put (now (out .entry)) at (rowText r) (now (out .exit)) n × (n ≤ at + 256) ⌝ }
 {
-    let rect = r.rect;
-    let grouped = shows_group(r.kind);
+    let shown = shown_by(r.kind);
+    let numbers = numbers_in(r);
     let a = put_number(out, at, r.section as u64);
     let b = put_name(out, a, r.kind);
-    let c = put_column(out, b, r.kind == 4, r.pass_idx as u64);
-    let d = put_column(out, c, grouped, r.group_idx as u64);
-    let e = put_column(out, d, true, r.sent as u64);
-    let f = put_column(out, e, true, r.offset);
-    let g = put_column(out, f, true, r.size as u64);
-    put_rect(out, g, bits::either(r.kind == 0, grouped), rect)
+    put_columns(out, b, &shown, &numbers)
 }
 
 // A line for each section, in the order of their numbers.

@@ -1,3 +1,2 @@
-pub mod Finding
-pub mod Seven
+pub mod Lines
 pub mod Jobs

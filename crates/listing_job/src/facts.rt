@@ -1,14 +1,17 @@
-// The facts line: seven numbers with a tab between two and a line feed behind the last.
+// The facts line: numbers with a tab between two and a line feed behind the last. Its length is that of the list of limits.
 use header::Facts;
 ghost use mathlib.Core.Path.{_≡_};
-ghost use Prim.Native.Nat.{_≤_, _<_};
-ghost use lib.ListN.{length, drop};
-ghost use Rattle.listing_job.specs.Line.{Found, Stepped, Lined};
+ghost use Prim.Native.Nat.{_≤_};
+ghost use lib.Dec.{ltb};
+ghost use Rattle.bits.specs.Refusals.{pick};
+ghost use Rattle.listing_job.specs.Line.{Valued, Lined};
 
-// A number of the line, and the index behind the byte that ends it.
-struct Step {
+// How many numbers the line has.
+const COUNT: usize = 7;
+
+// Whether every number of a line is good, and the index behind the line.
+struct LineEnd {
     good: bool,
-    value: u64,
     next: usize,
 }
 
@@ -19,40 +22,28 @@ pub struct FactsLine {
     pub next: usize,
 }
 
-// The index of the first such byte from an index on, or the end.
-fn find(s: &[u8], at: usize, stop: u8) -> usize
-    requires { ⌜ at ≤ length (now s) ⌝ }
-    ensures { λ r. ⌜ Found (now (s .entry)) at stop r ⌝ }
+// The byte that ends a number, where so many of the line's numbers are read with it.
+fn stop_of(read: usize, count: usize) -> u8
+    ensures { λ r. ⌜ r ≡ pick (ltb read count) 9 10 ⌝ }
 {
-    let mut i = at;
-    while i < s.len() {
-        if s[i] == stop {
-            return i;
-        }
-        i += 1;
-    }
-    i
+    if read < count { 9 } else { 10 }
 }
 
-// The number that stands from an index on, up to a byte that ends it.
-fn number_at(s: &[u8], at: usize, stop: u8, limit: u64) -> Step
-    requires { ⌜ at ≤ length (now s) ⌝ }
-    ensures { λ r. ⌜ Stepped (now (s .entry)) at stop limit r ⌝ }
+// The numbers of a line by their limits.
+fn read_line(s: &[u8], limits: &[u64], values: &mut [u64]) -> LineEnd
+    ensures { λ r. ⌜ Valued (now (s .entry)) (now (limits .entry)) (now (values .entry)) r (now (values .exit)) ⌝ }
 {
-    let end = find(s, at, stop);
-    if s.len() <= end {
-        return Step {
-            good: false,
-            value: 0,
-            next: end,
-        };
+    let mut good = true;
+    let mut at: usize = 0;
+    let mut i: usize = 0;
+    while i < limits.len() {
+        let n = decimal::number_at(s, at, stop_of(i + 1, limits.len()), limits[i]);
+        good = bits::both(good, n.good);
+        fill::put_u64(values, i, n.value);
+        at = n.next;
+        i += 1;
     }
-    let p = decimal::read_number(&s[at..end], limit);
-    Step {
-        good: p.good,
-        value: p.value,
-        next: end + 1,
-    }
+    LineEnd { good, next: at }
 }
 
 fn narrow(n: u64) -> u32
@@ -62,32 +53,25 @@ fn narrow(n: u64) -> u32
     n as u32
 }
 
+// Width, height, XYB, grey, extra channels, animation, timecodes: the most that each may be, and what each is.
 pub fn facts_line(s: &[u8]) -> FactsLine
     ensures { λ r. ⌜ Lined (now (s .entry)) r ⌝ }
 {
-    let width = number_at(s, 0, 9, 4294967295);
-    let height = number_at(s, width.next, 9, 4294967295);
-    let xyb = number_at(s, height.next, 9, 1);
-    let grey = number_at(s, xyb.next, 9, 1);
-    let extra = number_at(s, grey.next, 9, 4294967295);
-    let animation = number_at(s, extra.next, 9, 1);
-    let timecodes = number_at(s, animation.next, 10, 1);
-    let sizes = bits::both(width.good, height.good);
-    let colours = bits::both(xyb.good, grey.good);
-    let times = bits::both(animation.good, timecodes.good);
-    let rest = bits::both(colours, bits::both(extra.good, times));
+    let limits: [u64; COUNT] = [4294967295, 4294967295, 1, 1, 4294967295, 1, 1];
+    let mut values = [0u64; COUNT];
+    let line = read_line(s, &limits, &mut values);
     let facts = Facts {
-        width: narrow(width.value),
-        height: narrow(height.value),
-        xyb: xyb.value == 1,
-        grey: grey.value == 1,
-        extra: narrow(extra.value),
-        animation: animation.value == 1,
-        timecodes: timecodes.value == 1,
+        width: narrow(values[0]),
+        height: narrow(values[1]),
+        xyb: values[2] == 1,
+        grey: values[3] == 1,
+        extra: narrow(values[4]),
+        animation: values[5] == 1,
+        timecodes: values[6] == 1,
     };
     FactsLine {
-        good: bits::both(sizes, rest),
+        good: line.good,
         facts,
-        next: timecodes.next,
+        next: line.next,
     }
 }

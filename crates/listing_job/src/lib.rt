@@ -14,12 +14,6 @@ ghost use Rattle.listing.specs.Put.{Texted, fitted};
 ghost use Rattle.listing.specs.Listed.{listing, listingRefusal};
 ghost use Rattle.listing_job.specs.Job.{jobText, headerText, sectionsText};
 
-fn least(a: usize, b: usize) -> usize
-    ensures { λ r. ⌜ r ≡ min a b ⌝ }
-{
-    if a < b { a } else { b }
-}
-
 // The listing of a table that was read.
 fn list_table(
     f: Frame,
@@ -34,7 +28,7 @@ fn list_table(
         (listing f (now (offsets .entry)) (now (sizes .entry)) (take (min count (length (now (order .entry)))) (now (order .entry)))) (now (out .entry)) a (now (out .exit))
         ⌝ }
 {
-    let n = least(count as usize, order.len());
+    let n = fill::least(count as usize, order.len());
     listing::write_listing(f, offsets, sizes, &order[..n], out)
 }
 
@@ -82,7 +76,7 @@ fn list_header(s: &[u8], facts: Facts, out: &mut [u8]) -> TextAnswer
 fn list_bytes(rest: &[u8], facts: Facts, out: &mut [u8]) -> TextAnswer
     ensures { λ a. ⌜ Texted (fitted (headerText (take 32768 (now (rest .entry))) facts) (now (out .entry))) (headerText (take 32768 (now (rest .entry))) facts) (now (out .entry)) a (now (out .exit)) ⌝ }
 {
-    let n = least(32768, rest.len());
+    let n = fill::least(32768, rest.len());
     list_header(&rest[..n], facts, out)
 }
 

@@ -1,5 +1,6 @@
 -- `put_listing`: the heading, the lines, the total.
 use borrow.Author.Needs.{needs}
+use Rattle.listing.specs.Text.{totalText}
 use Rattle.listing.proofs.Texts.{heading-small, listing-put}
 use Rattle.listing.proofs.put_listing.Statement.{statement}
 use Rattle.listing.proofs.put_listing.Tie as tie
@@ -8,7 +9,10 @@ put-rows-requires : tie.Need-put-rows-requires
 put-rows-requires c κs = (heading-small (c .before .before .before .put-heading .ensures), c .before .before .before .before .before .before .before .before .before .pre)
 
 returns : tie.Need-returns
-returns c = listing-put (c .before .before .before .before .before .before .before .before .before .before .before .before .before .before .before .before .before .args .count) (c .before .before .before .before .before .before .before .before .before .before .before .before .before .before .before .before .before .args .f) (c .before .before .before .before .before .before .before .before .before .before .before .before .before .before .before .before .before .args .offsets .now) (c .before .before .before .before .before .before .before .before .before .before .before .before .before .before .before .before .before .args .sizes .now) (c .before .before .before .before .before .before .before .before .before .before .before .before .before .before .before .before .before .args .order .now) _ (c .before .before .before .before .before .before .before .before .before .before .before .put-heading .ensures) (c .before .before .before .before .before .before .before .put-rows .ensures) (c .before .before .before .sum-sizes .ensures) (c .before .before .put-total .ensures)
+unfolding totalText
+returns c =
+    let a = c .before .before .before .before .before .before .before .before .before .before .before .before .before .before .before .before .before .before .before .args in
+    listing-put (a .count) (a .f) (a .offsets .now) (a .sizes .now) (a .order .now) _ (c .before .before .before .before .before .before .before .before .before .before .before .before .before .put-heading .ensures) (c .before .before .before .before .before .before .before .before .before .put-rows .ensures) (c .before .before .before .before .sum-sizes .ensures) (c .before .before .put-line .ensures)
 
 pub put-listing-spec : {M : Type 1} → statement M
 put-listing-spec =
@@ -16,7 +20,9 @@ put-listing-spec =
     (tie.spec
     (λ c κs. search needs)
     put-rows-requires
+    (λ c. search needs)
     (λ c κs. search needs)
+    (λ c. search needs)
     (λ c κs. search needs)
     (λ c. search needs)
     returns)

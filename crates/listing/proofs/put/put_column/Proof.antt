@@ -9,7 +9,7 @@ returns : tie.Need-returns
 returns c = column-dash (c .before .before .before .before .before .before .before .args .shown) (c .before .before .before .before .before .before .before .args .n) (not-true _ (c .before .before .before .before .before .if1 .taken)) (c .before .before .put-bytes .ensures)
 
 returns-2 : tie.Need-returns-2
-returns-2 c = column-number _ (c .before .before .before .before .before .before .before .before .before .before .args .shown) (c .before .before .before .before .before .before .before .before .before .before .args .n) (not-false _ (c .before .before .before .before .before .before .before .before .if1 .left)) (c .before .before .before .before .before .before .put .ensures) (c .before .before .put-number .ensures)
+returns-2 c = column-number _ (c .before .before .before .before .before .before .before .before .before .before .args .shown) (c .before .before .before .before .before .before .before .before .before .before .args .n) (not-false _ (c .before .before .before .before .before .before .before .before .if1 .left)) (c .before .before .before .before .before .before .put-u8 .ensures) (c .before .before .put-number .ensures)
 
 pub put-column-spec : {M : Type 1} → statement M
 put-column-spec =
