@@ -5,7 +5,7 @@ use native.Mathlib.Nat.{not-suc-le-zero}
 use native.Mathlib.Decide.{decLe}
 use mathlib.Core.Path.{_≡_, refl, sym, _∙_, ap}
 use mathlib.Core.Logic.{by-cases}
-use mathlib.Core.Bool.{Bool, true, false, not, _&&_}
+use mathlib.Core.Bool.{Bool, true, false, _&&_}
 use mathlib.Core.List.{List, [], _∷_, _++_, append-assoc, append-nil}
 use lib.Dec.{leb, eqb}
 use lib.ListN.{getD}
