@@ -1,19 +1,17 @@
 -- Laws of reading a number: what is left of a text, one digit further, and what makes it bad.
-use Prim.Native.Nat.{ℕ, zero, suc, _+_, _-_, _*_, _/_, _≤_, _<_}
+use Prim.Native.Nat.{ℕ, suc, _+_, _-_, _*_, _/_, _≤_, _<_}
 use native.Mathlib.Omega.{arith}
 use mathlib.Core.Path.{_≡_, refl, sym, _∙_, ap}
 use mathlib.Core.Logic.{by-cases}
 use native.Mathlib.Decide.{decLe}
-use mathlib.Core.Bool.{Bool, true, false, not, _&&_}
+use mathlib.Core.Bool.{true, false, not, and-false}
 use mathlib.Core.List.{List, [], _∷_}
 use lib.Dec.{leb, eqb}
 use lib.ListN.{length, getD, drop}
 use lib.Seq.{drop-cons, drop-length}
 use native.Mathlib.Numerals.{add-one}
 use borrow.Author.Tests.{le-leb, lt-leb, leb-true, leb-false}
-use Rattle.bits.specs.Refusals.{pick}
 use Rattle.bits.proofs.Bits.{and-left, and-right}
-use Rattle.decimal.specs.declared.Parsed.{Parsed}
 use Rattle.decimal.specs.Decimal.{isDigit, digitsAlone, leads, valueFrom, judged, parsed, good, bad}
 
 -- digits only make a number larger
@@ -35,13 +33,9 @@ module _ (limit v b : ℕ) (text : List ℕ) where
   unfolding judged digitsAlone valueFrom
   judged-other d = rw d
 
-and-no : (a : Bool) → (a && false) ≡ false
-and-no true = refl
-and-no false = refl
-
 pub judged-large : (limit v : ℕ) (text : List ℕ) → limit < v → judged limit v text ≡ bad
 unfolding judged
-judged-large limit v text h = rw (lt-leb (valueFrom v text) limit (omega (arith, value-grows v text)), and-no (digitsAlone text))
+judged-large limit v text h = rw (lt-leb (valueFrom v text) limit (omega (arith, value-grows v text)), and-false (digitsAlone text))
 
 -- ---- the front
 

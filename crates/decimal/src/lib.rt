@@ -1,8 +1,7 @@
 // Numbers as text: decimal digits with no sign and no zero in front. What is written reads back as the same number, and a text that
 // reads as a number is the one that is written for it.
 ghost use mathlib.Core.Path.{_≡_};
-ghost use Prim.Native.Nat.{_+_, _*_, _-_, _<_, _≤_};
-ghost use mathlib.Core.Bool.{_&&_};
+ghost use Prim.Native.Nat.{_+_, _*_, _-_, _<_};
 ghost use lib.Dec.{leb};
 ghost use Rattle.decimal.specs.Decimal.{digitsOf, parsed, isDigit, leads};
 ghost use Rattle.decimal.specs.UpTo.{findAt, numberAt};

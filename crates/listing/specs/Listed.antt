@@ -13,7 +13,6 @@ use Rattle.grid.specs.Measured.{gridOf}
 use Rattle.grid.specs.Groups.{rectFor}
 use Rattle.order.specs.Order.{checked}
 use Rattle.order.specs.Sums.{sumTo}
-use Rattle.sections.specs.declared.TocGroupKind.{TocGroupKind}
 use Rattle.sections.specs.declared.KindNumbers.{KindNumbers}
 use Rattle.sections.specs.Kinds.{numbersOf, kindOf}
 use Rattle.listing.specs.declared.rows.Row.{Row}

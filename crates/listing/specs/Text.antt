@@ -1,6 +1,6 @@
 -- The listing's text: lines of columns with a tab between two, and a line feed after each line.
 use Prim.Native.Nat.{ℕ, zero, suc}
-use mathlib.Core.Bool.{Bool, true, false, _||_}
+use mathlib.Core.Bool.{Bool, true, _||_}
 use mathlib.Core.List.{List, [], _∷_, _++_}
 use lib.Dec.{eqb}
 use Rattle.bits.specs.declared.Refusal.{Refusal}

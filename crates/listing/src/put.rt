@@ -1,6 +1,5 @@
 // Bytes, numbers and columns put into lent bytes from an index on. A place that the bytes haven't is passed over, so that the same walk
 // serves to measure, on bytes that are too few, and to write. Each answers the index behind what it put.
-ghost use mathlib.Core.Path.{_≡_};
 ghost use mathlib.Core.List.{[], _∷_};
 ghost use Prim.Native.Nat.{_+_, _*_, _≤_};
 ghost use lib.ListN.{length};

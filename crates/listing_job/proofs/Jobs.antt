@@ -2,19 +2,18 @@
 use Prim.Native.Nat.{ℕ, _-_, _≤_, min}
 use native.Mathlib.Omega.{arith}
 use native.Mathlib.Decide.{decLe}
-use mathlib.Core.Path.{_≡_, refl, sym, _∙_, ap}
+use mathlib.Core.Path.{_≡_, sym, _∙_, ap}
 use mathlib.Core.Logic.{by-cases}
-use mathlib.Core.Bool.{Bool, true, false, not, _&&_}
-use mathlib.Core.List.{List, _++_}
-use lib.Dec.{leb}
+use mathlib.Core.Bool.{true, false, not}
+use mathlib.Core.List.{List}
 use lib.ListN.{length, take, drop, length-take, length-drop}
 use lib.Seq.{take-all, take-at}
 use borrow.Author.Tests.{eq-eqb, ne-eqb, le-leb, not-true, not-false}
 use Rattle.bits.specs.declared.Refusal.{Refusal}
-use Rattle.bits.specs.Refusals.{pick, refusal, none}
+use Rattle.bits.specs.Refusals.{refusal}
 use Rattle.grid.specs.declared.Frame.{Frame}
 use Rattle.grid.specs.Measured.{gridOf}
-use Rattle.order.specs.Order.{isOrder, checked}
+use Rattle.order.specs.Order.{isOrder}
 use Rattle.order.specs.Tables.{filled}
 use Rattle.order.proofs.Tables.{filled-length}
 use Rattle.order.proofs.Reach.{order-length}
@@ -25,14 +24,14 @@ use Rattle.header.specs.Questions.{frameOf}
 use Rattle.toc.specs.declared.Toc.{Toc}
 use Rattle.toc.specs.declared.TocRead.{TocRead}
 use Rattle.toc.specs.declared.TocRead.the-variants.{Table, OrderNeeded, Refused}
-use Rattle.toc.specs.Reading.{Tables, Reading, firstReading, after, tablesOf, Done}
+use Rattle.toc.specs.Reading.{Tables, firstReading, after, tablesOf, Done}
 use Rattle.toc.proofs.Accepted.{Accepted, first-accepted}
 use Rattle.listing.specs.declared.TextAnswer.{TextAnswer}
 use Rattle.listing.specs.Put.{Texted, fitted}
 use Rattle.listing.specs.Text.{refusedText, orderText}
 use Rattle.listing.specs.Listed.{listing, listingRefusal}
 use Rattle.listing_job.specs.declared.facts.FactsLine.{FactsLine}
-use Rattle.listing_job.specs.Line.{goodLine, factsOf, frameBytes, Lined}
+use Rattle.listing_job.specs.Line.{frameBytes, Lined}
 use Rattle.listing_job.specs.Job.{words, blank, readText, readingText, sectionsText, headed, headerText, jobText}
 
 -- the same text by another name

@@ -6,21 +6,19 @@ use native.Mathlib.Numerals.{add-one}
 use mathlib.Core.Path.{_≡_, refl, sym, _∙_, ap}
 use mathlib.Core.Logic.{by-cases}
 use mathlib.Core.Bool.{Bool, true, _&&_, and-true, and-assoc}
-use mathlib.Core.List.{List, [], _∷_, _++_, append-nil}
+use mathlib.Core.List.{List, [], _∷_, append-nil}
 use lib.Dec.{ltb}
 use lib.ListN.{length, getD, set, drop, drop-of-length-le}
 use lib.Seq.{sets, drop-cons, drop-length, sets-eq}
 use borrow.Author.Tests.{lt-ltb, le-ltb}
 use Rattle.bits.specs.Refusals.{pick}
 use Rattle.fill.proofs.Filling.{Filling, filling-none, filling-more, filling-all}
-use Rattle.decimal.specs.declared.Parsed.{Parsed}
 use Rattle.decimal.specs.declared.Step.{Step}
-use Rattle.decimal.specs.UpTo.{behind, numbered, numberAt}
+use Rattle.decimal.specs.UpTo.{behind, numberAt}
 use Rattle.decimal.proofs.Finding.{number-rest, number-within, numbered-small}
 use Rattle.header.specs.declared.Facts.{Facts}
 use Rattle.listing_job.specs.declared.facts.LineEnd.{LineEnd}
-use Rattle.listing_job.specs.declared.facts.FactsLine.{FactsLine}
-use Rattle.listing_job.specs.Line.{limits, factsFrom, LineRead, withFirst, stopBefore, lineRead, goodLine, factsOf, frameBytes, Valued, Lined}
+use Rattle.listing_job.specs.Line.{limits, factsFrom, LineRead, withFirst, stopBefore, lineRead, Valued, Lined}
 
 -- ---- a line's numbers
 

@@ -1,5 +1,4 @@
 -- `write_number`: the digits of what is left are still to stand in front of what is written.
-use Prim.Native.Nat.{_-_}
 use native.Mathlib.Omega.{arith}
 use borrow.Author.Needs.{needs}
 use Rattle.decimal.proofs.Spelling.{Spells, spells-none, spells-at, spells-more, spells-last}
