@@ -9,14 +9,6 @@ ghost use Rattle.listing_job.specs.Job.{jobText};
 ghost use Rattle.c_words.specs.Status.{statusOf};
 ghost use Rattle.export.specs.Told.{untold, Told};
 
-fn put_length(out: &mut [u64], v: u64)
-    ensures { λ _. ⌜ now (out .exit) ≡ set (now (out .entry)) 0 v ⌝ }
-{
-    if 0 < out.len() {
-        out[0] = v;
-    }
-}
-
 // The text's length as one word, unless it is refused; and the status.
 fn give_length(a: TextAnswer, out: &mut [u64]) -> u64
     ensures { λ r. ⌜
@@ -28,7 +20,7 @@ fn give_length(a: TextAnswer, out: &mut [u64]) -> u64
     if refusal.number != 0 {
         return status(refusal);
     }
-    put_length(out, a.length as u64);
+    fill::put_u64(out, 0, a.length as u64);
     status(refusal)
 }
 

@@ -9,7 +9,7 @@ returns c = (c .status .ensures, length-refused (c .before .before .before .befo
 
 returns-2 : tie.Need-returns-2
 returns-2 c =
-    (c .status2 .ensures, length-given (c .before .before .before .before .before .before .before .before .before .args .a) (c .before .before .before .before .before .before .before .before .before .args .out .now) _ (c .before .before .before .before .before .if1 .left) (c .before .before .before .put-length .ensures))
+    (c .status2 .ensures, length-given (c .before .before .before .before .before .before .before .before .before .args .a) (c .before .before .before .before .before .before .before .before .before .args .out .now) _ (c .before .before .before .before .before .if1 .left) (c .before .before .before .put-u64 .ensures))
 
 pub give-length-spec : {M : Type 1} → statement M
 give-length-spec =
