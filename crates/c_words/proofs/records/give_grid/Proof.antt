@@ -10,6 +10,9 @@ cast-t13 c = omega (arith, c .struct-known10 .given)
 cast-t14 : tie.Need-cast-t14
 cast-t14 c = omega (arith, c .struct-known11 .given)
 
+returns : tie.Need-returns
+returns c = search needs
+
 pub give-grid-spec : {M : Type 1} → statement M
 give-grid-spec =
     tie.close
@@ -28,4 +31,4 @@ give-grid-spec =
     (λ c. search needs)
     (λ c κs. search needs)
     (λ c. search needs)
-    (λ c. search needs))
+    returns)
