@@ -9,7 +9,6 @@ use put::put_bytes;
 use put::put_columns;
 pub use rows::Row;
 use rows::put_rows;
-pub use rows::row_at;
 use rows::sum_sizes;
 ghost use mathlib.Core.Path.{_≡_};
 ghost use mathlib.Core.List.{map};
