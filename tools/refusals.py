@@ -7,7 +7,7 @@ refused for its own sake, whatever becomes of the others. The gate is content wi
 and each has to be refused by itself: its own proof has an error at a fact (not at a law or a callee that was not admitted, and not at a name that
 the edit took away), or it has no proof file and the search closes one of its needs no longer. So does each law that an edit of definitions names (`laws:`).
 
-Then, for every row of a table of PROMISES.md that has a column of edits: each function of the first column is named by at least two edits of its
+Then, for every row of a table of PROMISES.md with the column `wrong answers tried`: each function of the first column is named by at least two edits of its
 crate in the gate, and refused by itself in both. --more looks at the edits under must-fail/more instead (see tools/more.py), which are only asked
 to be refused at a fact.
 """
@@ -26,7 +26,7 @@ def rows():
             table = False
             continue
         cells = [c.strip() for c in re.split(r'(?<!\\)\|', line.strip().strip('|'))]
-        if 'wrong' in cells[-1].lower():
+        if cells[-1] == 'wrong answers tried':
             table = True
         elif table and not set(cells[0]) <= set('-'):
             yield crate, cells
