@@ -223,7 +223,7 @@ pub fn read_frame_header(
     if status != 0 {
         return Err(parts(status));
     }
-    // Safe: beside a status of 0 all three are written whole, which is proved (crates/words/proofs/Written.antt).
+    // Safe: beside a status of 0 all three are written whole, which is proved (crates/theorems/proofs/Status.antt).
     let (words, signed, floats) = unsafe {
         (
             words.assume_init_ref(),
