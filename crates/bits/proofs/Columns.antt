@@ -12,12 +12,10 @@ use Rattle.bits.specs.declared.Cursor.{Cursor}
 use Rattle.bits.specs.declared.Field.{Field}
 use Rattle.bits.specs.Refusals.{pick, clear}
 use Rattle.bits.specs.Bits.{bitsAt, bitCount, there}
-use Rattle.bits.specs.Half.{exponent}
 use Rattle.bits.specs.Steps.{Steps, gives, refuses, cutAt, run}
-use Rattle.bits.specs.Codec.{bool, u64, f16, padding, skip, steps, field}
+use Rattle.bits.specs.Codec.{u64, padding, skip, steps, field}
 use Rattle.bits.specs.Table.{Table, ends, row, fails, Out, failed, read, bind, within, times}
 use Rattle.bits.specs.Extensions.{lengths, extensions}
-use Rattle.bits.proofs.Bits.{bits-lt}
 use Rattle.bits.proofs.Tables.{read-bind, read-within}
 use Rattle.bits.proofs.Rows.{times-then}
 use Rattle.bits.proofs.Reading.{picked}
@@ -113,28 +111,6 @@ pub kept-columns : {R : Type 0} (t : Table R R) (given : R → Type 0) → Kept 
 kept-columns t given k s c g = keeps-due t given (λ r. Unit {0}) k s c g .1
 
 -- ---- rows whose number is bounded, or always 0
-
-pub bool-small : (s : List ℕ) (on : Bool) (d : ℕ) (c : Cursor) → d < 2 → field s on bool d c .value < 2
-unfolding field run
-bool-small s on d c h =
-    picked (λ (r : Field). r .value < 2) (on && clear c) (run (steps bool (c .at)) s (c .at) (c .at)) (record { value = d; next = c })
-    (λ e.
-    picked (λ (r : Field). r .value < 2) (there s (c .at) 1) (run (gives (bitsAt s (c .at) 1)) s (c .at) (c .at + 1)) (cutAt s (c .at) (c .at + 1))
-    (λ e. bits-lt s (c .at) 1) (λ e. omega arith))
-    (λ e. h)
-
-pub half-small : (s : List ℕ) (on : Bool) (d : ℕ) (c : Cursor) → d < 65536 → field s on f16 d c .value < 65536
-unfolding field run
-half-small s on d c h =
-    let x : ℕ = bitsAt s (c .at) 16 in
-    picked (λ (r : Field). r .value < 65536) (on && clear c) (run (steps f16 (c .at)) s (c .at) (c .at)) (record { value = d; next = c })
-    (λ e.
-    picked (λ (r : Field). r .value < 65536) (there s (c .at) 16) (run (pick (eqb (exponent x) 31) (refuses 6) (gives x)) s (c .at) (c .at + 16)) (cutAt s (c .at) (c .at + 16))
-    (λ e.
-    picked (λ (t : Steps). run t s (c .at) (c .at + 16) .value < 65536) (eqb (exponent x) 31) (refuses 6) (gives x) (λ e. omega arith)
-    (λ e. bits-lt s (c .at) 16))
-    (λ e. omega arith))
-    (λ e. h)
 
 pub padding-zero : (s : List ℕ) (on : Bool) (c : Cursor) → field s on padding 0 c .value ≡ 0
 unfolding field run

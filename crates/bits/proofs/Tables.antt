@@ -1,15 +1,14 @@
 -- Laws of tables: one after another, one inside another, and the extensions bundle.
-use Prim.Native.Nat.{ℕ, zero, suc, _+_, _-_, _*_, _/_, _%_, _^_, _≤_, _<_}
+use Prim.Native.Nat.{ℕ, zero, suc, _+_, _-_, _/_, _%_, _^_, _<_}
 use native.Mathlib.Omega.{arith}
-use native.Mathlib.Nat.{add-zero, pow-suc, zero-mod, zero-div}
+use native.Mathlib.Nat.{add-zero, pow-suc}
 use mathlib.Core.Path.{_≡_, refl, sym, _∙_, ap}
 use mathlib.Core.List.{List}
 use mathlib.Core.Bool.{Bool, true, false, not, _&&_}
 use lib.Dec.{eqb}
 use Rattle.bits.specs.declared.Cursor.{Cursor}
-use Rattle.bits.specs.declared.Field.{Field}
 use Rattle.bits.specs.declared.Wide.{Wide}
-use Rattle.bits.specs.Refusals.{pick, refusal, clear}
+use Rattle.bits.specs.Refusals.{refusal, clear}
 use Rattle.bits.specs.Codec.{Codec, u64, skip, field, wideOf}
 use Rattle.bits.specs.Table.{Table, ends, row, fails, Out, failed, read, bind, within}
 use Rattle.bits.specs.Extensions.{lengths, extensions}

@@ -20,7 +20,7 @@ use Rattle.header.specs.Shape.{passes, scales, placement}
 use Rattle.header.specs.Arrays.{element}
 use Rattle.header.specs.Blending.{coversSide, coversImage, sourceDecider, hasSource, blending}
 use Rattle.header.specs.Closing.{closing}
-use Rattle.header.specs.Questions.{frameHeader}
+use Rattle.header.specs.Record.{frameHeader}
 use Rattle.order.specs.Order.{isOrder, checked, allBelow, distinct, has as occurs}
 use Rattle.order.specs.Sums.{sumTo}
 use Rattle.order.specs.Tables.{tabulate, indexOf, inverseOf, identity, filled}

@@ -16,7 +16,7 @@ use Rattle.grid.specs.Groups.{rectFor}
 use Rattle.header.specs.declared.Facts.{Facts}
 use Rattle.header.specs.declared.shape.Placement.{Placement}
 use Rattle.header.specs.Header.{Header}
-use Rattle.header.specs.Questions.{frameHeader, frameOf}
+use Rattle.header.specs.Record.{frameHeader, frameOf}
 use Rattle.header.specs.Blending.{coversImage, resets}
 use Rattle.header.specs.Entry.{stands}
 use Rattle.toc.specs.declared.TocRead.{TocRead}

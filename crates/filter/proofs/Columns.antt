@@ -20,7 +20,8 @@ use Rattle.bits.specs.Table.{Table, Out, read, bind}
 use Rattle.bits.specs.Extensions.{extensions}
 use Rattle.bits.proofs.Bits.{and-left, and-right}
 use Rattle.bits.proofs.Rows.{Reads, row-then, bind-then, within-then, at-end}
-use Rattle.bits.proofs.Columns.{Columns, columns-bind, columns-inside, columns-times, times-any, bool-small, half-small, extensions-columns}
+use Rattle.bits.proofs.Columns.{Columns, columns-bind, columns-inside, columns-times, times-any, extensions-columns}
+use Rattle.bits.proofs.Values.{bool-small, half-small}
 use Rattle.filter.specs.declared.gabor.Gabor.{Gabor}
 use Rattle.filter.specs.declared.gabor.Channel.{Channel}
 use Rattle.filter.specs.declared.settings.EpfSigma.{EpfSigma}
@@ -28,7 +29,7 @@ use Rattle.filter.specs.declared.settings.EpfParams.{EpfParams}
 use Rattle.filter.specs.declared.epf.EdgePreservingFilter.{EdgePreservingFilter}
 use Rattle.filter.specs.Values.{pattern, patternAt, custom, float, floats}
 use Rattle.filter.specs.Gabor.{weightsOf, gaborDefault, gaborDisabled, channel, gaborOf, gabor}
-use Rattle.filter.specs.Epf.{sharpDefault, scaleDefault, sigmaDefault, epfDisabled, sharp, scale, sigmas, sigmaOf, sigma, epfOf, epf}
+use Rattle.filter.specs.Epf.{sharpDefault, scaleDefault, sigmaDefault, epfDisabled, sharp, scale, sigmas, sigmaOf, sigma, settings, fourOf, epfOf, epf}
 use Rattle.filter.specs.Filter.{restoration}
 use Rattle.filter.proofs.PatternLaws.{pattern-half}
 use Rattle.filter.proofs.GaborLaws.{of-custom}
@@ -291,10 +292,10 @@ module _ (on modular : Bool) (s : List ℕ) (c : Cursor) where
     )
 
 -- a filter without iterations has 0 of them
-iters-back : (b : Bool) (p : EpfParams) → eqb (p .iters) 0 ≡ b → pick b epfDisabled (record { enabled = true; params = p }) .params .iters ≡ p .iters
+iters-back : (b : Bool) (n : ℕ) (p : EpfParams) → eqb n 0 ≡ b → pick b epfDisabled (record { enabled = true; iters = n; params = p }) .iters ≡ n
 unfolding epfDisabled
-iters-back true p e = sym (eqb-true (p .iters) 0 e)
-iters-back false p e = refl
+iters-back true n p e = sym (eqb-true n 0 e)
+iters-back false n p e = refl
 
 module _ (on modular : Bool) (s : List ℕ) (c : Cursor) where
   abbrev rounds : Field
@@ -316,15 +317,12 @@ module _ (on modular : Bool) (s : List ℕ) (c : Cursor) where
   flat = field s (live && modular) f16 15360 (sigmaOut .next)
 
   abbrev params : EpfParams
-  params = record {
-    iters = rounds .value;
-    «sharp_lut» = lut .value;
-    «channel_scale» = scales .value;
-    sigma = sigmaOut .value;
-    «sigma_for_modular» = half (flat .value);
-  }
+  params = settings (lut .value) (scales .value) (sigmaOut .value) (half (flat .value))
 
-  epf-read : Reads (epf on modular) s c (record { value = epfOf params; next = flat .next })
+  abbrev filterOf : EdgePreservingFilter
+  filterOf = epfOf (rounds .value) params
+
+  epf-read : Reads (epf on modular) s c (record { value = filterOf; next = flat .next })
   unfolding epf
   epf-read =
       row-then rounds refl
@@ -340,20 +338,20 @@ module _ (on modular : Bool) (s : List ℕ) (c : Cursor) where
     pub sigma : SigmaSent live modular s (scales .next)
 
   -- where there are iterations, the settings are those that were read
-  live-params : live ≡ true → epfOf params .params ≡ params
+  live-params : live ≡ true → filterOf .params ≡ params
   live-params here = rw (not-true (eqb (rounds .value) 0) (and-right on (not (eqb (rounds .value) 0)) here))
 
-  epf-given : EpfSent → Columns (epf on modular) s c (epfOf params)
+  epf-given : EpfSent → Columns (epf on modular) s c (filterOf)
   unfolding epf Columns
   epf-given sent = (
-    λ here. iters-back (eqb (rounds .value) 0) params refl,
-    columns-inside _ _ _ s (rounds .next) (epfOf params)
-        (sharp-columns (live && not modular) s (rounds .next) (epfOf params .params) (λ here. ap (λ (p : EpfParams). p .«sharp_lut») (live-params (and-left live (not modular) here))) (sent .sharp))
-        (columns-inside _ _ _ s (lut .next) (epfOf params)
-        (scale-columns live s (lut .next) (epfOf params .params) (λ here. ap (λ (p : EpfParams). p .«channel_scale») (live-params here)) (sent .scale))
-        (columns-inside _ _ _ s (scales .next) (epfOf params)
-        (sigma-columns live modular s (scales .next) (epfOf params .params .sigma) (λ here. ap (λ (p : EpfParams). p .sigma) (live-params here)) (sent .sigma))
-        (float-then _ 15360 _ s (sigmaOut .next) (epfOf params) (omega arith)
+    λ here. iters-back (eqb (rounds .value) 0) (rounds .value) params refl,
+    columns-inside _ _ _ s (rounds .next) (filterOf)
+        (sharp-columns (live && not modular) s (rounds .next) (filterOf .params) (λ here. ap (λ (p : EpfParams). p .«sharp_lut») (live-params (and-left live (not modular) here))) (sent .sharp))
+        (columns-inside _ _ _ s (lut .next) (filterOf)
+        (scale-columns live s (lut .next) (filterOf .params) (λ here. ap (λ (p : EpfParams). p .«channel_scale») (live-params here)) (sent .scale))
+        (columns-inside _ _ _ s (scales .next) (filterOf)
+        (sigma-columns live modular s (scales .next) (fourOf (filterOf .params)) (λ here. ap fourOf (live-params here)) (sent .sigma))
+        (float-then _ 15360 _ s (sigmaOut .next) (filterOf) (omega arith)
         (λ here. ap (λ (p : EpfParams). pattern (p .«sigma_for_modular»)) (live-params (and-left live modular here))) _ tt))),
   )
 

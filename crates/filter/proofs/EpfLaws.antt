@@ -22,7 +22,7 @@ use Rattle.filter.specs.declared.settings.SigmaRead.{SigmaRead}
 use Rattle.filter.specs.declared.epf.EdgePreservingFilter.{EdgePreservingFilter}
 use Rattle.filter.specs.declared.epf.EpfRead.{EpfRead}
 use Rattle.filter.specs.Values.{decimal, float, floats, floatRead}
-use Rattle.filter.specs.Epf.{sharpDefault, scaleDefault, sigmaDefault, epfDefault, epfDisabled, sharp, scale, sigma, sigmaOf, epfOf, epf, sharpRead, scaleRead, sigmaRead, epfRead}
+use Rattle.filter.specs.Epf.{sharpDefault, scaleDefault, sigmaDefault, settings, epfDefault, epfDisabled, sharp, scale, sigma, sigmaOf, epfOf, epf, sharpRead, scaleRead, sigmaRead, epfRead}
 
 pub float-read : (s : List ℕ) (on : Bool) (d : ℕ) (c : Cursor) (h : Field) (value : Float) → h ≡ field s on f16 d c → value ≡ half (h .value)
     → _≡_ {A = FloatRead} (record { value = value; next = h .next }) (floatRead (field s on f16 d c))
@@ -44,15 +44,15 @@ module _ (own modular : Bool) (q a b d : Float) where
   sigma-custom m h e = rw (not-false own h, e)
 
 -- no iterations, or some
-module _ (p : EpfParams) where
-  pub of-none : p .iters ≡ 0 → epfDisabled ≡ epfOf p
-  of-none h = rw (eq-eqb (p .iters) 0 h)
+module _ (n : ℕ) (p : EpfParams) where
+  pub of-none : n ≡ 0 → epfDisabled ≡ epfOf n p
+  of-none h = rw (eq-eqb n 0 h)
 
-  pub of-some : (p .iters ≡ 0 → ⊥) → _≡_ {A = EdgePreservingFilter} (record { enabled = true; params = p }) (epfOf p)
-  of-some h = rw (ne-eqb (p .iters) 0 h)
+  pub of-some : (n ≡ 0 → ⊥) → _≡_ {A = EdgePreservingFilter} (record { enabled = true; iters = n; params = p }) (epfOf n p)
+  of-some h = rw (ne-eqb n 0 h)
 
 pub epf-default-is : (lut scales : List Float) (four : EpfSigma) (m : Float) → lut ≡ sharpDefault → scales ≡ scaleDefault → four ≡ sigmaDefault → m ≡ decimal 1 1
-    → _≡_ {A = EdgePreservingFilter} (record { enabled = true; params = record { iters = 2; «sharp_lut» = lut; «channel_scale» = scales; sigma = four; «sigma_for_modular» = m } }) epfDefault
+    → _≡_ {A = EdgePreservingFilter} (record { enabled = true; iters = 2; params = settings lut scales four m }) epfDefault
 unfolding epfDefault
 epf-default-is lut scales four m a b d e = rw (a, b, d, e)
 
@@ -146,7 +146,7 @@ pub epf-is : (s : List ℕ) (on modular : Bool) (k : Cursor) (iters : Field) (li
     → four ≡ sigmaRead (read (sigma live modular) s (scales .next))
     → own ≡ (live && modular)
     → m ≡ floatRead (field s own f16 15360 (four .next))
-    → value ≡ epfOf (record { iters = iters .value; «sharp_lut» = lut .value; «channel_scale» = scales .value; sigma = four .value; «sigma_for_modular» = m .value })
+    → value ≡ epfOf (iters .value) (settings (lut .value) (scales .value) (four .value) (m .value))
     → _≡_ {A = EpfRead} (record { value = value; next = m .next }) (epfRead (read (epf on modular) s k))
 unfolding epf
 epf-is s on modular k iters live dct own lut scales four m value pi pl pd pu ps pf po pm pv =

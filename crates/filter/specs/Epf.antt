@@ -1,4 +1,5 @@
--- `EdgePreservingFilter`, as src/filter.rs reads it: a flag, and its settings.
+-- `EdgePreservingFilter`, as src/filter.rs reads it: a flag and the iterations, and beside them its settings.
+use Prim.Native.Nat.{ℕ}
 use mathlib.Core.Bool.{Bool, true, false, not, _&&_}
 use mathlib.Core.List.{List, [], _∷_}
 use lib.Dec.{eqb}
@@ -29,18 +30,34 @@ unfoldable pub sigmaDefault : EpfSigma
 sigmaDefault =
     record { «quant_mul» = decimal 46 100; «pass0_sigma_scale» = decimal 9 10; «pass2_sigma_scale» = decimal 65 10; «border_sad_mul» = quotient 2 3 }
 
+-- eight sharpness values, three channel scales, four sigma values and the modular sigma
+abbrev pub settings : List Float → List Float → EpfSigma → Float → EpfParams
+settings lut scales four m = record {
+  «sharp_lut» = lut;
+  «channel_scale» = scales;
+  «quant_mul» = four .«quant_mul»;
+  «pass0_sigma_scale» = four .«pass0_sigma_scale»;
+  «pass2_sigma_scale» = four .«pass2_sigma_scale»;
+  «border_sad_mul» = four .«border_sad_mul»;
+  «sigma_for_modular» = m;
+}
+
+-- the four sigma values of the settings
+abbrev pub fourOf : EpfParams → EpfSigma
+fourOf p = record {
+  «quant_mul» = p .«quant_mul»;
+  «pass0_sigma_scale» = p .«pass0_sigma_scale»;
+  «pass2_sigma_scale» = p .«pass2_sigma_scale»;
+  «border_sad_mul» = p .«border_sad_mul»;
+}
+
 -- two iterations, the default values, and 1.0 as the modular sigma
 unfoldable pub epfDefault : EdgePreservingFilter
 epfDefault =
     record {
       enabled = true;
-      params = record {
-        iters = 2;
-        «sharp_lut» = sharpDefault;
-        «channel_scale» = scaleDefault;
-        sigma = sigmaDefault;
-        «sigma_for_modular» = decimal 1 1;
-      };
+      iters = 2;
+      params = settings sharpDefault scaleDefault sigmaDefault (decimal 1 1);
     }
 
 -- a disabled filter's values are all +0.0, its iterations 0
@@ -48,11 +65,14 @@ unfoldable pub epfDisabled : EdgePreservingFilter
 epfDisabled =
     record {
       enabled = false;
+      iters = 0;
       params = record {
-        iters = 0;
         «sharp_lut» = plusZero ∷ plusZero ∷ plusZero ∷ plusZero ∷ plusZero ∷ plusZero ∷ plusZero ∷ plusZero ∷ [];
         «channel_scale» = plusZero ∷ plusZero ∷ plusZero ∷ [];
-        sigma = record { «quant_mul» = plusZero; «pass0_sigma_scale» = plusZero; «pass2_sigma_scale» = plusZero; «border_sad_mul» = plusZero };
+        «quant_mul» = plusZero;
+        «pass0_sigma_scale» = plusZero;
+        «pass2_sigma_scale» = plusZero;
+        «border_sad_mul» = plusZero;
         «sigma_for_modular» = plusZero;
       };
     }
@@ -92,20 +112,20 @@ sigma on modular =
     ends (sigmaOf (eqb own 1) modular q a b d)
 
 -- no iterations: disabled
-abbrev pub epfOf : EpfParams → EdgePreservingFilter
-epfOf p = pick (eqb (p .iters) 0) epfDisabled (record { enabled = true; params = p })
+abbrev pub epfOf : ℕ → EpfParams → EdgePreservingFilter
+epfOf iters p = pick (eqb iters 0) epfDisabled (record { enabled = true; iters = iters; params = p })
 
 -- The bundle. Where there are no iterations nothing more is read; sharpness is read in a VarDct frame alone, the modular sigma in a Modular
 -- frame alone, and is 1.0 otherwise, whose f16 pattern is 15360.
 unfoldable pub epf : Bool → Bool → Table EdgePreservingFilter EdgePreservingFilter
 epf on modular =
-    row on (u 2) 2 (λ r. r .params .iters) λ iters.
+    row on (u 2) 2 (λ r. r .iters) λ iters.
     let live : Bool = on && not (eqb iters 0) in
     bind (within (λ r. r .params) (sharp (live && not modular))) λ lut.
     bind (within (λ r. r .params) (scale live)) λ scales.
-    bind (within (λ r. r .params .sigma) (sigma live modular)) λ four.
+    bind (within (λ r. fourOf (r .params)) (sigma live modular)) λ four.
     bind (float (live && modular) 15360 λ r. pattern (r .params .«sigma_for_modular»)) λ m.
-    ends (epfOf (record { iters = iters; «sharp_lut» = lut; «channel_scale» = scales; sigma = four; «sigma_for_modular» = m }))
+    ends (epfOf iters (settings lut scales four m))
 
 -- what was read, and the cursor after it
 abbrev pub sharpRead : Out (List Float) → SharpRead

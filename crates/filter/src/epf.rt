@@ -1,7 +1,6 @@
-// The edge-preserving filter: a flag beside its settings.
+// The edge-preserving filter: a flag and the iterations beside its settings.
 use crate::floats::read_float_if;
 use crate::settings::EpfParams;
-use crate::settings::EpfSigma;
 use crate::settings::read_scale_if;
 use crate::settings::read_sharp_if;
 use crate::settings::read_sigma_if;
@@ -15,6 +14,7 @@ ghost use Rattle.filter.specs.Epf.{epfDefault, epfDisabled, epfOf, epf, 
 
 pub struct EdgePreservingFilter {
     pub enabled: bool,
+    pub iters: u32,
     pub params: EpfParams,
 }
 
@@ -29,19 +29,16 @@ pub fn epf_disabled() -> EdgePreservingFilter
 {
     let sharp_lut = [0.0f32; 8];
     let channel_scale = [0.0f32; 3];
-    let sigma = EpfSigma {
-        quant_mul: 0.0,
-        pass0_sigma_scale: 0.0,
-        pass2_sigma_scale: 0.0,
-        border_sad_mul: 0.0,
-    };
     EdgePreservingFilter {
         enabled: false,
+        iters: 0,
         params: EpfParams {
-            iters: 0,
             sharp_lut,
             channel_scale,
-            sigma,
+            quant_mul: 0.0,
+            pass0_sigma_scale: 0.0,
+            pass2_sigma_scale: 0.0,
+            border_sad_mul: 0.0,
             sigma_for_modular: 0.0,
         },
     }
@@ -56,26 +53,30 @@ pub fn epf_default() -> EdgePreservingFilter
     let sigma = sigma_default();
     EdgePreservingFilter {
         enabled: true,
+        iters: 2,
         params: EpfParams {
-            iters: 2,
             sharp_lut,
             channel_scale,
-            sigma,
+            quant_mul: sigma.quant_mul,
+            pass0_sigma_scale: sigma.pass0_sigma_scale,
+            pass2_sigma_scale: sigma.pass2_sigma_scale,
+            border_sad_mul: sigma.border_sad_mul,
             sigma_for_modular: 1.0,
         },
     }
 }
 
 // Enabled where there are iterations.
-fn epf_of(params: EpfParams) -> EdgePreservingFilter
-    ensures { λ r. ⌜ r ≡ epfOf params ⌝ }
+fn epf_of(iters: u32, params: EpfParams) -> EdgePreservingFilter
+    ensures { λ r. ⌜ r ≡ epfOf iters params ⌝ }
 {
     let none = epf_disabled();
-    if params.iters == 0 {
+    if iters == 0 {
         return none;
     }
     EdgePreservingFilter {
         enabled: true,
+        iters,
         params,
     }
 }
@@ -93,13 +94,24 @@ pub fn read_epf_if(s: &[u8], c: Cursor, on: bool, modular: bool) -> EpfRead
     let sharp_lut = lut.value;
     let channel_scale = scale.value;
     let sigma = four.value;
-    let value = epf_of(EpfParams {
-        iters: iters.value,
+    let params = EpfParams {
         sharp_lut,
         channel_scale,
-        sigma,
+        quant_mul: sigma.quant_mul,
+        pass0_sigma_scale: sigma.pass0_sigma_scale,
+        pass2_sigma_scale: sigma.pass2_sigma_scale,
+        border_sad_mul: sigma.border_sad_mul,
         sigma_for_modular: own.value,
-    });
+    };
+    let value = epf_of(iters.value, params);
     let next = own.next;
     EpfRead { value, next }
+}
+
+impl EdgePreservingFilter {
+    pub fn enabled(self) -> bool
+        ensures { λ r. ⌜ r ≡ self .enabled ⌝ }
+    {
+        self.enabled
+    }
 }

@@ -103,3 +103,11 @@ pub fn read_gabor_if(s: &[u8], c: Cursor, on: bool) -> GaborRead
         next,
     }
 }
+
+impl Gabor {
+    pub fn enabled(self) -> bool
+        ensures { λ r. ⌜ r ≡ self .enabled ⌝ }
+    {
+        self.enabled
+    }
+}

@@ -13,7 +13,6 @@ pub use gabor::Gabor;
 pub use gabor::GaborRead;
 pub use gabor::read_gabor_if;
 pub use settings::EpfParams;
-pub use settings::EpfSigma;
 pub use weights::is_unbalanced;
 ghost use mathlib.Core.Path.{_≡_};
 ghost use Rattle.bits.specs.Table.{read};

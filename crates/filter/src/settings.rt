@@ -6,19 +6,22 @@ ghost use Rattle.bits.specs.Refusals.{pick};
 ghost use Rattle.bits.specs.Table.{read};
 ghost use Rattle.filter.specs.Epf.{sharpDefault, scaleDefault, sigmaDefault, sharp, scale, sigma, sigmaOf, sharpRead, scaleRead, sigmaRead};
 
+pub struct EpfParams {
+    pub sharp_lut: [f32; 8],
+    pub channel_scale: [f32; 3],
+    pub quant_mul: f32,
+    pub pass0_sigma_scale: f32,
+    pub pass2_sigma_scale: f32,
+    pub border_sad_mul: f32,
+    pub sigma_for_modular: f32,
+}
+
+// The four sigma values on their way into the settings.
 pub struct EpfSigma {
     pub quant_mul: f32,
     pub pass0_sigma_scale: f32,
     pub pass2_sigma_scale: f32,
     pub border_sad_mul: f32,
-}
-
-pub struct EpfParams {
-    pub iters: u32,
-    pub sharp_lut: [f32; 8],
-    pub channel_scale: [f32; 3],
-    pub sigma: EpfSigma,
-    pub sigma_for_modular: f32,
 }
 
 pub struct SharpRead {

@@ -22,14 +22,15 @@ use Rattle.header.specs.declared.blending.Decider.{Decider}
 use Rattle.header.specs.declared.FrameHeader.{FrameHeader}
 use Rattle.header.specs.declared.parts.Front.{Front}
 use Rattle.header.specs.declared.parts.Back.{Back}
-use Rattle.header.specs.Arrays.{element, array, Arrayed}
+use Rattle.header.specs.Arrays.{element, array}
+use Rattle.header.specs.Private.{Arrayed, Extras, Defaulted}
 use Rattle.header.specs.Opening.{opening, upsamplings}
 use Rattle.header.specs.Shape.{passes, scales, placement}
-use Rattle.header.specs.Blending.{blending, words, sourceDecider, Extras}
+use Rattle.header.specs.Blending.{blending, words, sourceDecider}
 use Rattle.header.specs.Closing.{closing}
 use Rattle.header.specs.Header.{noBlending, front, back, header}
-use Rattle.header.specs.Questions.{frameHeader}
-use Rattle.header.specs.Defaults.{defaultFront, defaultBack, Defaulted}
+use Rattle.header.specs.Record.{HeaderNumbers, numbersOf, headerOf}
+use Rattle.header.specs.Defaults.{defaultFront, defaultBack}
 
 -- a table that repeats, and reads nothing each time
 times-none : {R A : Type 0} (t : ℕ → Table R A) (v : A) (s : List ℕ) (c : Cursor) → ((i : ℕ) → Reads (t i) s c (record { value = v; next = c }))
@@ -105,7 +106,7 @@ module _ (f : Facts) (s : List ℕ) (c : Cursor) where
 
   -- what is answered of it
   pub default-given : (fr : Front) (ba : Back) (h : FrameHeader) (acc : Refusal) (w e : Cursor) (upsampling upsampling' channels channels' : List ℕ)
-      → fr ≡ defaultFront f → ba ≡ defaultBack → h ≡ frameHeader f fr ba → acc ≡ none
+      → fr ≡ defaultFront f → ba ≡ defaultBack → numbersOf h ≡ headerOf f fr ba → acc ≡ none
       → Arrayed (u32 upsamplings) 0 (f .extra) 1 s c w upsampling upsampling'
       → Extras false (f .extra) true (sourceDecider f 0) s c e channels channels'
       → Defaulted f (c .at) (record { header = h; end = c .at; refusal = acc }) upsampling upsampling' channels channels'

@@ -29,11 +29,11 @@ use Rattle.header.specs.declared.closing.Closing.{Closing}
 use Rattle.bits.specs.declared.view.View.{View}
 use Rattle.bits.specs.declared.view.Seen.{Seen}
 use Rattle.bits.specs.View.{seen}
-use Rattle.header.specs.Known.{seenSmall}
+use Rattle.header.specs.Private.{seenSmall, Arrayed}
 use Rattle.types.specs.Types.{flagged}
 use Rattle.header.specs.Opening.{opening, upsamplings}
 use Rattle.header.specs.declared.shape.Passes.{Passes}
-use Rattle.header.specs.Arrays.{array, Arrayed}
+use Rattle.header.specs.Arrays.{array}
 use Rattle.header.specs.Shape.{places, passCounts, downsamples, lastPasses, passes, scales, placement}
 use Rattle.header.proofs.Walks.{array-out, read-then, busy}
 use Rattle.bits.proofs.Views.{Held, held-ahead, fieldOf, see-is}

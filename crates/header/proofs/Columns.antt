@@ -29,7 +29,8 @@ use Rattle.header.specs.declared.closing.Closing.{Closing}
 use Rattle.header.specs.Arrays.{element, array}
 use Rattle.header.specs.Opening.{opening, upsamplings}
 use Rattle.header.specs.Shape.{passCounts, downsamples, lastPasses, passes, scales, placement}
-use Rattle.header.specs.Blending.{coversImage, resets, byOwn, sourceDecider, blending, extras}
+use Rattle.header.specs.Blending.{coversImage, resets, byOwn, sourceDecider, blending}
+use Rattle.header.specs.Private.{extras}
 use Rattle.header.specs.Closing.{closing}
 use Rattle.header.specs.Header.{Header, Begun, Ended, sentUpsampling, shown, noBlending, front, back, header}
 use Rattle.header.proofs.Walks.{array-any}
@@ -175,7 +176,7 @@ module _ (f : Facts) (s : List ℕ) (c : Cursor) where
     upsampling = sized .value;
   }
 
-  front-read : Reads (front f) s c (record { value = begun; next = placed .next })
+  pub front-read : Reads (front f) s c (record { value = begun; next = placed .next })
   unfolding front
   front-read =
       within-then _ _ _ (opened .value) (opened .next) (record { is = refl })
@@ -220,7 +221,7 @@ module _ (f : Facts) (o : Opening) (p : Placement) (s : List ℕ) (c : Cursor) w
     name = named .value;
   }
 
-  back-read : Reads (back f o p) s c (record { value = ended; next = skipped .next })
+  pub back-read : Reads (back f o p) s c (record { value = ended; next = skipped .next })
   unfolding back
   back-read =
       within-then _ _ _ (colour .value) (colour .next) (record { is = refl })

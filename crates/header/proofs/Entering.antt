@@ -17,10 +17,12 @@ use Rattle.bits.specs.Codec.{u, u32, bool, field, signed}
 use Rattle.bits.specs.Bits.{bitsAt, there}
 use Rattle.bits.specs.Steps.{cutAt, run}
 use Rattle.bits.specs.Table.{Out, read}
+use Rattle.bits.proofs.Values.{bits-small, case-small}
 use Rattle.header.specs.declared.Facts.{Facts}
 use Rattle.header.specs.declared.FrameHeader.{FrameHeader}
 use Rattle.header.specs.declared.blending.Blending.{Blending}
 use Rattle.header.specs.declared.blending.BlendingInfo.{BlendingInfo}
+use Rattle.header.specs.declared.blending.Decider.{Decider}
 use Rattle.types.specs.declared.BlendMode.{BlendMode}
 use Rattle.types.specs.declared.FrameType.{FrameType}
 use Rattle.types.specs.declared.Encoding.{Encoding}
@@ -29,15 +31,17 @@ use Rattle.header.specs.declared.parts.Back.{Back}
 use Rattle.header.specs.declared.parts.FrontRead.{FrontRead}
 use Rattle.header.specs.declared.parts.BackRead.{BackRead}
 use Rattle.header.specs.declared.entry.HeaderAnswer.{HeaderAnswer}
-use Rattle.types.specs.Types.{frameType, encoding, blendMode}
-use Rattle.header.specs.Arrays.{array, Arrayed}
-use Rattle.header.specs.Opening.{upsamplings}
-use Rattle.header.specs.Blending.{coversImage, sourceDecider, words, extras, Extras}
-use Rattle.header.specs.Header.{Header, Begun, Ended, sentUpsampling, shown, front, back, header, upsamplingFrom, blendingFrom, Fronted, Backed}
-use Rattle.header.specs.Questions.{colorChannels, blendingInfo, frameHeader, zeroHeader}
-use Rattle.header.specs.Entry.{badFacts, judged, stands, refusedHeader, answered, kept, Kept, Given, Filled, Headed}
-use Rattle.header.specs.Defaults.{Defaulted}
+use Rattle.types.specs.Types.{frameTypeNumber, encodingNumber, blendModeNumber}
+use Rattle.header.specs.Arrays.{array}
+use Rattle.header.specs.Private.{Arrayed, extras, Extras, upsamplingFrom, blendingFrom, Fronted, Backed, Kept, Given, Filled, Defaulted, Named}
+use Rattle.header.specs.Opening.{opening, upsamplings}
+use Rattle.header.specs.Blending.{modes, coversImage, sourceDecider, blending, words}
+use Rattle.header.specs.Header.{Header, Begun, Ended, sentUpsampling, shown, front, back, header}
+use Rattle.header.specs.Record.{HeaderNumbers, infoNumbers, numbersOf, colorChannels, blendingOf, headerOf, zeroHeader}
+use Rattle.header.specs.Entry.{badFacts, judged, stands, HeaderTold, told, refusedHeader, answered, kept, Headed}
 use Rattle.header.proofs.Walks.{read-then, times-length, words-length, in-front}
+use Rattle.header.specs.Defaults.{defaultFront, defaultBack}
+use Rattle.header.proofs.Columns.{front-read, back-read}
 use Rattle.header.proofs.AllDefault.{header-off}
 
 -- 2, 1, 3
@@ -106,7 +110,7 @@ module _ (s : List ℕ) (b : Cursor) (all : Field) (pb : b ≡ start 0) (pa : al
 
 module _ (f : Facts) (s name upsampling blending : List ℕ) (before : Refusal) (eb : before ≡ judged (length s) f (length name) (length upsampling) (length blending)) where
   -- refused before anything was read
-  pub refused-first : (before .number ≡ 0 → ⊥) → (r : HeaderAnswer) → r ≡ refusedHeader before → Headed f s r name name upsampling upsampling blending blending
+  pub refused-first : (before .number ≡ 0 → ⊥) → (r : HeaderAnswer) → told r ≡ refusedHeader before → Headed f s r name name upsampling upsampling blending blending
   unfolding answered
   refused-first h r er =
       let no : eqb (judged (length s) f (length name) (length upsampling) (length blending) .number) 0 ≡ false = rw (← eb) (ne-eqb (before .number) 0 h) in
@@ -137,7 +141,7 @@ module _ (f : Facts) (s name upsampling blending : List ℕ) (before : Refusal) 
       is = ap (λ (o : Out Header). o .next) (header-law f s a b w w' x x' fa fb)
 
       -- refused while it was read
-      pub refused-later : (b .next .fault .number ≡ 0 → ⊥) → (r : HeaderAnswer) → r ≡ refusedHeader (b .next .fault) → Headed f s r name name upsampling upsampling blending blending
+      pub refused-later : (b .next .fault .number ≡ 0 → ⊥) → (r : HeaderAnswer) → told r ≡ refusedHeader (b .next .fault) → Headed f s r name name upsampling upsampling blending blending
       unfolding answered
       refused-later h r er =
           let no : eqb (b .next .fault .number) 0 ≡ false = ne-eqb (b .next .fault .number) 0 h in
@@ -184,7 +188,7 @@ module _ (f : Facts) (s : List ℕ) (a : FrontRead) (b : BackRead) (upsampling u
   given-read w e wu we = record { upsampled = wu .words; blended = we .content }
 
   -- the record and the arrays of what was read
-  pub filled-by : (hd : FrameHeader) (acc : Refusal) (name name' : List ℕ) (n : Cursor) → hd ≡ frameHeader f (a .value) (b .value) → acc ≡ none
+  pub filled-by : (hd : FrameHeader) (acc : Refusal) (name name' : List ℕ) (n : Cursor) → numbersOf hd ≡ headerOf f (a .value) (b .value) → acc ≡ none
       → Given f s a b upsampling upsampling' blending blending'
       → Arrayed (u 8) (b .value .closing .«name_length») (b .value .closing .«name_length») 0 s (b .«name_at») n name name'
       → Filled f s a b (record { header = hd; end = b .next .at; refusal = acc }) name name' upsampling upsampling' blending blending'
@@ -192,9 +196,9 @@ module _ (f : Facts) (s : List ℕ) (a : FrontRead) (b : BackRead) (upsampling u
 
 -- the record of what was read
 pub assembled : (f : Facts) (a : Front) (b : Back) (k : FrameType) (e : Encoding) (ch : ℕ) (x y : ℤ) (i : BlendingInfo) (full r : Bool)
-    → k ≡ frameType (a .opening .«frame_type») → e ≡ encoding (a .opening .encoding) → ch ≡ colorChannels f (a .opening)
-    → x ≡ signed (a .placement .x0) → y ≡ signed (a .placement .y0) → i ≡ blendingInfo (b .blending) → full ≡ coversImage f (a .placement) → r ≡ (eqb (b .blending .mode) 0 && full)
-    → _≡_ {A = FrameHeader} (record {
+    → frameTypeNumber k ≡ a .opening .«frame_type» → encodingNumber e ≡ a .opening .encoding → ch ≡ colorChannels f (a .opening)
+    → x ≡ signed (a .placement .x0) → y ≡ signed (a .placement .y0) → infoNumbers i ≡ blendingOf (b .blending) → full ≡ coversImage f (a .placement) → r ≡ (eqb (b .blending .mode) 0 && full)
+    → _≡_ {A = HeaderNumbers} (numbersOf (record {
       «frame_type» = k;
       encoding = e;
       flags = record { 0 = a .opening .flags };
@@ -221,14 +225,42 @@ pub assembled : (f : Facts) (a : Front) (b : Back) (k : FrameType) (e : Encoding
       «save_before_ct» = eqb (b .closing .«save_before_ct») 1;
       «name_length» = b .closing .«name_length»;
       «restoration_filter» = b .filter;
-    }) (frameHeader f a b)
-unfolding frameHeader
+    })) (headerOf f a b)
+unfolding headerOf
 assembled f a b k e ch x y i full r pk pe pc px py pi pf pr = rw (pk, pe, pc, px, py, pi, pr, pf)
 
-pub info-is : (b : Blending) (m : BlendMode) → m ≡ blendMode (b .mode)
-    → _≡_ {A = BlendingInfo} (record { mode = m; «alpha_channel» = b .«alpha_channel»; clamp = eqb (b .clamp) 1; source = b .source }) (blendingInfo b)
+pub info-is : (b : Blending) (m : BlendMode) → blendModeNumber m ≡ b .mode
+    → infoNumbers (record { mode = m; «alpha_channel» = b .«alpha_channel»; clamp = eqb (b .clamp) 1; source = b .source }) ≡ blendingOf b
 info-is b m e = rw e
 
-pub refused-is : (r : Refusal) (h : FrameHeader) → h ≡ zeroHeader → _≡_ {A = HeaderAnswer} (record { header = h; end = 0; refusal = r }) (refusedHeader r)
+pub refused-is : (r : Refusal) (h : FrameHeader) → numbersOf h ≡ zeroHeader → _≡_ {A = HeaderTold} (told (record { header = h; end = 0; refusal = r })) (refusedHeader r)
 unfolding refusedHeader
-refused-is r h e = rw e
+refused-is r h e = ap (λ (n : HeaderNumbers). record { header = n; end = 0; refusal = r }) e
+
+-- the record's enums name what was read: u(2), u(1) and a mode below 5
+opening-named : (f : Facts) (s : List ℕ) (c : Cursor) → (read (opening f) s c .value .«frame_type» < 4) × (read (opening f) s c .value .encoding < 2)
+unfolding opening read
+opening-named f s c = (bits-small s _ 2 0 _ (omega arith) (omega arith), bits-small s _ 1 0 _ (omega arith) (omega arith))
+
+blending-named : (on extra full : Bool) (d : Decider) (s : List ℕ) (c : Cursor) → read (blending on extra full d) s c .value .mode < 5
+unfolding blending read
+blending-named on extra full d s c = case-small s on modes 5 0 c (omega arith) (omega arith)
+
+pub header-named : (f : Facts) (s : List ℕ) (a : FrontRead) (b : BackRead) (w w' x x' : List ℕ) → Fronted f s a w w' → Backed f (a .value .opening) (a .value .placement) s (a .next) b x x'
+    → Named (a .value) (b .value)
+header-named f s a b w w' x x' fa fb =
+    let first : a .value .opening ≡ read (opening f) s (start 0) .value =
+    ap (λ (v : Front). v .opening) (sym (fa .value)) ∙ ap (λ (o : Out Begun). o .value .front .opening) (front-read f s (start 0) .is) in
+    let last : b .value .blending ≡ _ =
+    ap (λ (v : Back). v .blending) (sym (fb .value))
+    ∙ ap (λ (o : Out Ended). o .value .back .blending) (back-read f (a .value .opening) (a .value .placement) s (a .next) .is) in
+    record {
+      type = rw first (opening-named f s (start 0) .0);
+      encoding = rw first (opening-named f s (start 0) .1);
+      mode = rw last (blending-named _ _ _ _ s (a .next));
+    }
+
+-- and those of the defaults are named
+pub default-named : (f : Facts) (a : Front) (b : Back) → a ≡ defaultFront f → b ≡ defaultBack → Named a b
+unfolding defaultFront defaultBack
+default-named f a b ea eb = rw (ea, eb) (record { type = omega arith; encoding = omega arith; mode = omega arith })

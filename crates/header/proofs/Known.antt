@@ -2,7 +2,7 @@
 use Prim.Native.Nat.{ℕ, zero, suc, _+_, _≤_, _<_}
 use native.Mathlib.Omega.{arith}
 use native.Mathlib.Nat.{mod-lt}
-use mathlib.Core.Path.{_≡_, refl, sym, _∙_, ap}
+use mathlib.Core.Path.{_≡_, refl, _∙_, ap}
 use mathlib.Core.List.{List}
 use mathlib.Core.Bool.{Bool, true, false}
 use lib.Dec.{eqb, lit<}
@@ -14,7 +14,7 @@ use Rattle.bits.specs.View.{seen, seenChoice}
 use Rattle.bits.specs.Codec.{u32, field, val, plus, chosen}
 use Rattle.bits.proofs.Numbered.{of-both}
 use Rattle.bits.proofs.Views.{Held, held-less, fieldOf, see-choice}
-use Rattle.header.specs.Known.{small, seenSmall}
+use Rattle.header.specs.Private.{small, seenSmall}
 
 small-chosen : (n k : ℕ) → k < 4 → pick (eqb k 3) (plus 3 n) (val k) ≡ chosen (small n) k
 small-chosen n zero h = refl

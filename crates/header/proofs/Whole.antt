@@ -24,12 +24,13 @@ use Rattle.header.specs.declared.shape.PlacementRead.{PlacementRead}
 use Rattle.header.specs.declared.blending.Blending.{Blending}
 use Rattle.header.specs.declared.blending.BlendingRead.{BlendingRead}
 use Rattle.header.specs.declared.closing.ClosingRead.{ClosingRead}
-use Rattle.header.specs.Arrays.{array, Arrayed}
+use Rattle.header.specs.Arrays.{array}
+use Rattle.header.specs.Private.{Arrayed, extras, Extras, Fronted, Backed}
 use Rattle.header.specs.Opening.{opening, openingRead, upsamplings}
 use Rattle.header.specs.Shape.{passes, passesRead, scales, scalesRead, placement, placementRead}
-use Rattle.header.specs.Blending.{coversImage, resets, byOwn, sourceDecider, blending, blendingRead, extras, Extras}
+use Rattle.header.specs.Blending.{coversImage, resets, byOwn, sourceDecider, blending, blendingRead}
 use Rattle.header.specs.Closing.{closing, closingRead}
-use Rattle.header.specs.Header.{Header, Begun, Ended, sentUpsampling, shown, front, back, Fronted, Backed}
+use Rattle.header.specs.Header.{Header, Begun, Ended, sentUpsampling, shown, front, back}
 use Rattle.header.proofs.Walks.{array-any, read-then}
 
 -- a bundle inside another, then another
@@ -71,7 +72,7 @@ front-law s f b a y w w' q p c pb pa pu pq pp pc =
     ∙ then-within (λ h. h .front .passes) (passes (eqb (a .value .«all_default») 0 && not (eqb (a .value .«frame_type») 2))) _ s (q .next) (record { value = p .value; next = p .next })
     (ap (λ (r : PassesRead). record { value = r .value; next = r .next }) pp)
     ∙ then-within (λ h. h .front .placement) (placement f (a .value)) _ s (p .next) (record { value = c .value; next = c .next }) (ap (λ (r : PlacementRead). record { value = r .value; next = r .next }) pc) in
-    record { value = ap (λ (o : Out Begun). o .value .front) is; upsampling = ap (λ (o : Out Begun). o .value .upsampling) is; next = ap (λ (o : Out Begun). o .next) is; kept = pu .words }
+    record { upsampling-at = ap (λ (r : OpeningRead). r .next) (rw pb at pa); value = ap (λ (o : Out Begun). o .value .front) is; upsampling = ap (λ (o : Out Begun). o .value .upsampling) is; next = ap (λ (o : Out Begun). o .next) is; kept = pu .words }
 
 pub back-law : (s : List ℕ) (c : Cursor) (f : Facts) (o : Opening) (p : Placement) (b : BlendingRead) (x : Cursor) (w w' : List ℕ) (e : ClosingRead) (n : Cursor) (r : FilterRead) (z : Cursor)
     → b ≡ blendingRead (read (blending (shown o) (not (eqb (f .extra) 0)) (coversImage f p) byOwn) s c)
@@ -106,6 +107,8 @@ back-law s c f o p b x w w' e n r z pb px pe pn pr pz =
     ∙ then-within (λ h. h .back .filter) (restoration on (eqb (o .encoding) 1)) _ s n (record { value = r .value; next = r .next }) (ap (λ (y : FilterRead). record { value = y .value; next = y .next }) pr)
     ∙ then-within (λ h. tt) (extensions on) _ s (r .next) (record { value = ex .value; next = z }) (rw pz) in
     record {
+      blending-at = ap (λ (y : BlendingRead). y .next) pb;
+      name-at = ap (λ (y : ClosingRead). y .next) pe ∙ rw (px .next);
       value = ap (λ (y : Out Ended). y .value .back) is;
       blending = ap (λ (y : Out Ended). y .value .blending) is;
       name = ap (λ (y : Out Ended). y .value .name) is;

@@ -1,17 +1,16 @@
 -- `BlendingInfo`, and what resets the canvas.
 use Prim.Native.Nat.{ℕ}
-use mathlib.Core.Path.{_≡_}
 use mathlib.Core.Bool.{Bool, true, false, not, _&&_, _||_}
 use mathlib.Core.List.{List, [], _∷_}
 use lib.Dec.{eqb}
 use lib.IntN.{pos, _+ℤ_}
 use lib.Signed.{leZ}
-use lib.Seq.{sets}
 use Rattle.bits.specs.declared.Choices.{Choices}
-use Rattle.bits.specs.declared.Cursor.{Cursor}
 use Rattle.bits.specs.Refusals.{pick}
 use Rattle.bits.specs.Codec.{u, bool, u32, cases, val, plus, signed, oneOf}
-use Rattle.bits.specs.Table.{Table, Out, ends, row, times, read}
+use Rattle.bits.specs.Table.{Table, Out, ends, row}
+use Rattle.types.specs.declared.BlendMode.the-variants.{Replace, Blend, MulAdd, Mul}
+use Rattle.types.specs.Types.{isMode}
 use Rattle.header.specs.declared.Facts.{Facts}
 use Rattle.header.specs.declared.shape.Placement.{Placement}
 use Rattle.header.specs.declared.blending.Blending.{Blending}
@@ -36,7 +35,7 @@ coversImage f c = eqb (c .«have_crop») 0 || (coversSide (c .x0) (c .width) (f 
 
 -- a frame resets the canvas with mode Replace where it covers the image
 abbrev pub resets : ℕ → Bool → Bool
-resets mode full = eqb mode 0 && full
+resets mode full = isMode mode Replace && full
 
 -- The one place that says which mode decides on `source`: the colour channels go by their own mode, an extra channel by the colour channels'.
 abbrev pub byOwn : Decider
@@ -49,12 +48,16 @@ sourceDecider f mode = record { own = false; mode = mode }
 unfoldable pub hasSource : Decider → ℕ → Bool → Bool
 hasSource d own full = not (resets (pick (d .own) own (d .mode)) full)
 
+-- the modes that use alpha: Blend and MulAdd
+abbrev pub usesAlphaOf : ℕ → Bool
+usesAlphaOf m = isMode m Blend || isMode m MulAdd
+
 unfoldable pub blending : Bool → Bool → Bool → Decider → Table Blending Blending
 blending on extra full d =
     row on (cases modes 5) 0 (λ r. r .mode) λ m.
-    let alpha : Bool = extra && (eqb m 2 || eqb m 3) in
+    let alpha : Bool = extra && usesAlphaOf m in
     row alpha (u32 alphas) 0 (λ r. r .«alpha_channel») λ a.
-    row (alpha || eqb m 4) bool 0 (λ r. r .clamp) λ k.
+    row (alpha || isMode m Mul) bool 0 (λ r. r .clamp) λ k.
     row (on && hasSource d m full) (u 2) 0 (λ r. r .source) λ x.
     ends (record { mode = m; «alpha_channel» = a; clamp = k; source = x })
 
@@ -62,14 +65,6 @@ blending on extra full d =
 unfoldable pub words : List Blending → List ℕ
 words [] = []
 words (b ∷ bs) = b .mode ∷ b .«alpha_channel» ∷ b .clamp ∷ b .source ∷ words bs
-
--- n extra channels alone: where they end, and what a lent table holds after them
-abbrev pub extras : Bool → ℕ → Bool → Decider → Table Blending (List Blending)
-extras on n full d = times n 0 (λ i. blending on true full d)
-
-pub record Extras (on : Bool) (n : ℕ) (full : Bool) (d : Decider) (s : List ℕ) (c r : Cursor) (before after : List ℕ) : Type 0 where
-  pub next : r ≡ read (extras on n full d) s c .next
-  pub content : after ≡ sets before 0 (words (read (extras on n full d) s c .value))
 
 abbrev pub blendingRead : Out Blending → BlendingRead
 blendingRead o = record { value = o .value; next = o .next }

@@ -1,18 +1,11 @@
 -- A header whose first bit says all default: every field has its default, and the header is that bit.
-use Prim.Native.Nat.{ℕ}
-use mathlib.Core.Path.{_≡_}
-use mathlib.Core.List.{List}
 use lib.ListN.{replicate}
-use lib.Seq.{sets}
-use Rattle.bits.specs.Refusals.{pick, none}
+use Rattle.bits.specs.Refusals.{pick}
 use Rattle.filter.specs.Filter.{filterDefault}
 use Rattle.header.specs.declared.Facts.{Facts}
 use Rattle.header.specs.declared.parts.Front.{Front}
 use Rattle.header.specs.declared.parts.Back.{Back}
-use Rattle.header.specs.declared.entry.HeaderAnswer.{HeaderAnswer}
-use Rattle.header.specs.Blending.{words}
 use Rattle.header.specs.Header.{noBlending}
-use Rattle.header.specs.Questions.{frameHeader}
 
 -- a regular VarDCT frame of one pass, group size shift 1, as large as the image
 unfoldable pub defaultFront : Facts → Front
@@ -41,8 +34,3 @@ defaultBack = record {
   filter = filterDefault;
 }
 
--- what is answered: the record, the place behind that bit, and for each extra channel upsampling 1 and blending 0, 0, 0, 0
-pub record Defaulted (f : Facts) (at : ℕ) (r : HeaderAnswer) (upsampling upsampling' blending blending' : List ℕ) : Type 0 where
-  pub answer : r ≡ record { header = frameHeader f (defaultFront f) defaultBack; end = at; refusal = none }
-  pub upsampled : upsampling' ≡ sets upsampling 0 (replicate (f .extra) 1)
-  pub blended : blending' ≡ sets blending 0 (words (replicate (f .extra) noBlending))

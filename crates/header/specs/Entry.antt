@@ -1,23 +1,19 @@
 -- The entry: what it refuses, what it answers, and what the lent buffers hold after it.
-use Prim.Native.Nat.{ℕ, _*_, _≤_}
+use Prim.Native.Nat.{ℕ, _*_}
 use mathlib.Core.Path.{_≡_}
 use mathlib.Core.Bool.{Bool, _||_}
 use mathlib.Core.List.{List}
 use lib.Dec.{ltb, eqb}
-use lib.ListN.{length, take}
+use lib.ListN.{length}
 use lib.Seq.{sets}
 use Rattle.bits.specs.declared.Refusal.{Refusal}
 use Rattle.bits.specs.Refusals.{pick, refusal, none, start}
-use Rattle.bits.specs.Codec.{u}
 use Rattle.bits.specs.Table.{Out, read}
 use Rattle.header.specs.declared.Facts.{Facts}
 use Rattle.header.specs.declared.entry.HeaderAnswer.{HeaderAnswer}
-use Rattle.header.specs.declared.parts.FrontRead.{FrontRead}
-use Rattle.header.specs.declared.parts.BackRead.{BackRead}
-use Rattle.header.specs.Arrays.{array}
 use Rattle.header.specs.Blending.{words}
-use Rattle.header.specs.Header.{Header, upsamplingFrom, blendingFrom, header}
-use Rattle.header.specs.Questions.{frameHeader, zeroHeader}
+use Rattle.header.specs.Header.{Header, header}
+use Rattle.header.specs.Record.{HeaderNumbers, numbersOf, headerOf, zeroHeader}
 
 -- width and height from 1 to 1,073,741,824, and at most 256 extra channels
 abbrev pub badFacts : Facts → Bool
@@ -40,39 +36,32 @@ stands f s = read (header f) s (start 0)
 abbrev pub refusalOf : Refusal → Out Header → Refusal
 refusalOf before h = pick (eqb (before .number) 0) (h .next .fault) before
 
-unfoldable pub refusedHeader : Refusal → HeaderAnswer
+-- what an answer says, its enums by their numbers
+pub record HeaderTold : Type 0 where
+  pub header : HeaderNumbers
+  pub end : ℕ
+  pub refusal : Refusal
+
+abbrev pub told : HeaderAnswer → HeaderTold
+told a = record { header = numbersOf (a .header); end = a .end; refusal = a .refusal }
+
+unfoldable pub refusedHeader : Refusal → HeaderTold
 refusedHeader r = record { header = zeroHeader; end = 0; refusal = r }
 
 -- the record and the place after the last field, or the refusal beside the zero record
-unfoldable pub answered : Facts → Refusal → Out Header → HeaderAnswer
+unfoldable pub answered : Facts → Refusal → Out Header → HeaderTold
 answered f before h =
     pick (eqb (refusalOf before h .number) 0)
-    (record { header = frameHeader f (h .value .front) (h .value .back); end = h .next .at; refusal = none })
+    (record { header = headerOf f (h .value .front) (h .value .back); end = h .next .at; refusal = none })
     (refusedHeader (refusalOf before h))
 
 -- a lent buffer: its first places hold what was read, the others stay; on a refusal all stay
 abbrev pub kept : Refusal → Out Header → List ℕ → List ℕ → List ℕ
 kept before h new buffer = pick (eqb (refusalOf before h .number) 0) (sets buffer 0 new) buffer
 
--- what was kept of up to eight extra channels: all their words, in front
-pub record Kept (f : Facts) (s : List ℕ) (a : FrontRead) (b : BackRead) (ups channels : List ℕ) : Type 0 where
-  pub room : (length ups ≡ 8) × (length channels ≡ 32)
-  pub upsampled : f .extra ≤ 8 → take (f .extra) ups ≡ upsamplingFrom f (a .value .opening) s (a .«upsampling_at»)
-  pub blended : f .extra ≤ 8 → take (4 * f .extra) channels ≡ words (blendingFrom f (a .value .opening) (a .value .placement) (b .value .blending .mode) s (b .«blending_at»))
-
--- the extra channels' words in front of the lent buffers
-pub record Given (f : Facts) (s : List ℕ) (a : FrontRead) (b : BackRead) (upsampling upsampling' blending blending' : List ℕ) : Type 0 where
-  pub upsampled : upsampling' ≡ sets upsampling 0 (upsamplingFrom f (a .value .opening) s (a .«upsampling_at»))
-  pub blended : blending' ≡ sets blending 0 (words (blendingFrom f (a .value .opening) (a .value .placement) (b .value .blending .mode) s (b .«blending_at»)))
-
--- what is answered of a header that was read in two parts: the record, and the arrays in front of the lent buffers
-pub record Filled (f : Facts) (s : List ℕ) (a : FrontRead) (b : BackRead) (r : HeaderAnswer) (name name' upsampling upsampling' blending blending' : List ℕ) : Type 0 where
-  pub answer : r ≡ record { header = frameHeader f (a .value) (b .value); end = b .next .at; refusal = none }
-  pub named : name' ≡ sets name 0 (read (array (u 8) (b .value .closing .«name_length») (b .value .closing .«name_length») 0 (λ (x : List ℕ) (i : ℕ). 0)) s (b .«name_at») .value)
-  pub channels : Given f s a b upsampling upsampling' blending blending'
-
+-- what the entry promises: its answer, and every lent buffer
 pub record Headed (f : Facts) (s : List ℕ) (r : HeaderAnswer) (name name' upsampling upsampling' blending blending' : List ℕ) : Type 0 where
-  pub answer : r ≡ answered f (judged (length s) f (length name) (length upsampling) (length blending)) (stands f s)
+  pub answer : told r ≡ answered f (judged (length s) f (length name) (length upsampling) (length blending)) (stands f s)
   pub named : name' ≡ kept (judged (length s) f (length name) (length upsampling) (length blending)) (stands f s) (stands f s .value .name) name
   pub upsampled : upsampling' ≡ kept (judged (length s) f (length name) (length upsampling) (length blending)) (stands f s) (stands f s .value .upsampling) upsampling
   pub blended : blending' ≡ kept (judged (length s) f (length name) (length upsampling) (length blending)) (stands f s) (words (stands f s .value .blending)) blending

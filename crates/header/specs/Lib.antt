@@ -1,10 +1,11 @@
 pub mod Arrays
 pub mod Opening
 pub mod Shape
-pub mod Known
 pub mod Blending
 pub mod Closing
 pub mod Header
+pub mod Record
 pub mod Questions
 pub mod Defaults
 pub mod Entry
+pub mod Private

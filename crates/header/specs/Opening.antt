@@ -1,6 +1,5 @@
 -- all_default to upsampling.
-use Prim.Native.Nat.{ℕ}
-use mathlib.Core.Bool.{Bool, true, not, _&&_}
+use mathlib.Core.Bool.{Bool, true, not, _&&_, _||_}
 use lib.Dec.{eqb}
 use Rattle.bits.specs.declared.Choices.{Choices}
 use Rattle.bits.specs.Codec.{u, bool, u32, u64, val, oneOf}
@@ -8,11 +7,16 @@ use Rattle.bits.specs.Table.{Table, Out, ends, row}
 use Rattle.header.specs.declared.Facts.{Facts}
 use Rattle.header.specs.declared.opening.Opening.{Opening}
 use Rattle.header.specs.declared.opening.OpeningRead.{OpeningRead}
-use Rattle.types.specs.Types.{flagged}
+use Rattle.types.specs.declared.FrameType.the-variants.{RegularFrame, SkipProgressive}
+use Rattle.types.specs.Types.{isType, useLfFrame}
 
 -- U32(1, 2, 4, 8)
 abbrev pub upsamplings : Choices
 upsamplings = oneOf (val 1) (val 2) (val 4) (val 8)
+
+-- a regular frame or one to skip in progressive decoding
+abbrev pub normalFrame : Opening → Bool
+normalFrame o = isType (o .«frame_type») RegularFrame || isType (o .«frame_type») SkipProgressive
 
 -- «all_default» isn't kept: a later writer writes it as 0
 unfoldable pub opening : Facts → Table Opening Opening
@@ -23,11 +27,11 @@ opening f =
     row on (u 1) 0 (λ r. r .encoding) λ encoding.
     row on u64 0 (λ r. r .flags) λ flags.
     row (on && not (f .xyb)) bool 0 (λ r. r .«do_ycbcr») λ ycbcr.
-    let jpeg : Bool = eqb ycbcr 1 && not (flagged 32 flags) in
+    let jpeg : Bool = eqb ycbcr 1 && not (useLfFrame flags) in
     row jpeg (u 2) 0 (λ r. r .jpeg0) λ j0.
     row jpeg (u 2) 0 (λ r. r .jpeg1) λ j1.
     row jpeg (u 2) 0 (λ r. r .jpeg2) λ j2.
-    row (on && not (flagged 32 flags)) (u32 upsamplings) 1 (λ r. r .upsampling) λ up.
+    row (on && not (useLfFrame flags)) (u32 upsamplings) 1 (λ r. r .upsampling) λ up.
     ends (record {
       «all_default» = all;
       «frame_type» = kind;

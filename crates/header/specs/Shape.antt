@@ -1,13 +1,15 @@
 -- The group size to the frame's size, and the bundle `Passes`.
-use Prim.Native.Nat.{ℕ, _+_, _-_}
-use mathlib.Core.Bool.{Bool, true, not, _&&_}
-use mathlib.Core.List.{List}
+use Prim.Native.Nat.{_+_, _-_}
+use mathlib.Core.Bool.{Bool, not, _&&_}
 use lib.Dec.{eqb}
 use lib.ListN.{getD}
 use Rattle.bits.specs.declared.Choices.{Choices}
 use Rattle.bits.specs.Refusals.{pick}
 use Rattle.bits.specs.Codec.{u, bool, u32, val, plus, oneOf}
 use Rattle.bits.specs.Table.{Table, Out, ends, row, bind}
+use Rattle.types.specs.declared.FrameType.the-variants.{LfFrame, ReferenceOnly}
+use Rattle.types.specs.declared.Encoding.the-variants.{VarDct, Modular}
+use Rattle.types.specs.Types.{isType, isEncoding}
 use Rattle.header.specs.declared.Facts.{Facts}
 use Rattle.header.specs.declared.opening.Opening.{Opening}
 use Rattle.header.specs.declared.shape.Passes.{Passes}
@@ -48,20 +50,20 @@ passes on =
 -- «group_size_shift» is read for Modular, the two scales for XYB and VarDct; unread, «x_qm_scale» is 3 there and 2 otherwise
 unfoldable pub scales : Facts → Opening → Table Scales Scales
 scales f o =
-    let xyb : Bool = f .xyb && eqb (o .encoding) 0 in
+    let xyb : Bool = f .xyb && isEncoding (o .encoding) VarDct in
     let scaled : Bool = eqb (o .«all_default») 0 && xyb in
-    row (eqb (o .encoding) 1) (u 2) 1 (λ r. r .«group_size_shift») λ shift.
+    row (isEncoding (o .encoding) Modular) (u 2) 1 (λ r. r .«group_size_shift») λ shift.
     row scaled (u 3) (pick xyb 3 2) (λ r. r .«x_qm_scale») λ x.
     row scaled (u 3) 2 (λ r. r .«b_qm_scale») λ b.
     ends (record { «group_size_shift» = shift; «x_qm_scale» = x; «b_qm_scale» = b })
 
--- frame type 1 is the LF frame, 2 the reference-only frame; with no crop the frame has the image's size
+-- an LF frame has a level and no crop, a reference-only frame no place; with no crop the frame has the image's size
 unfoldable pub placement : Facts → Opening → Table Placement Placement
 placement f o =
-    let lf : Bool = eqb (o .«frame_type») 1 in
+    let lf : Bool = isType (o .«frame_type») LfFrame in
     row lf (u 2) 0 (λ r. r .«lf_level» - 1) λ level.
     row (eqb (o .«all_default») 0 && not lf) bool 0 (λ r. r .«have_crop») λ cropped.
-    let placed : Bool = eqb cropped 1 && not (eqb (o .«frame_type») 2) in
+    let placed : Bool = eqb cropped 1 && not (isType (o .«frame_type») ReferenceOnly) in
     row placed (u32 places) 0 (λ r. r .x0) λ x.
     row placed (u32 places) 0 (λ r. r .y0) λ y.
     row (eqb cropped 1) (u32 places) (f .width) (λ r. r .width) λ w.

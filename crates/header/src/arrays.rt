@@ -22,7 +22,8 @@ ghost use Rattle.bits.specs.Refusals.{pick, clear};
 ghost use Rattle.bits.specs.Steps.{piece};
 ghost use Rattle.bits.specs.Codec.{u, u32};
 ghost use Rattle.bits.specs.Table.{read};
-ghost use Rattle.header.specs.Arrays.{array, Arrayed};
+ghost use Rattle.header.specs.Arrays.{array};
+ghost use Rattle.header.specs.Private.{Arrayed};
 
 // count numbers of n bits each, of which the first limit stand there.
 pub fn read_bits_array(

@@ -8,6 +8,9 @@ use crate::blending::BlendingInfo;
 use crate::blending::covers_image;
 use crate::blending::read_extra_blending;
 use crate::blending::source_decider;
+use crate::cases::blend_mode_of;
+use crate::cases::encoding_of;
+use crate::cases::frame_type_of;
 use crate::defaults::give_default;
 use crate::opening::Opening;
 use crate::opening::upsampling_choices;
@@ -35,12 +38,11 @@ use types::BlendMode;
 use types::Encoding;
 use types::FrameFlags;
 use types::FrameType;
-use types::blend_mode_of;
-use types::encoding_of;
-use types::frame_type_of;
 ghost use mathlib.Core.Path.{_≡_};
-ghost use Rattle.header.specs.Questions.{colorChannels, blendingInfo, frameHeader, noPasses, zeroHeader};
-ghost use Rattle.header.specs.Entry.{badFacts, judged, refusedHeader, Kept, Given, Filled, Headed};
+ghost use Prim.Native.Nat.{_<_};
+ghost use Rattle.header.specs.Record.{colorChannels, infoNumbers, blendingOf, numbersOf, headerOf, noPasses, zeroHeader};
+ghost use Rattle.header.specs.Entry.{badFacts, judged, told, refusedHeader, Headed};
+ghost use Rattle.header.specs.Private.{Named, Kept, Given, Filled};
 
 // The record with the bit place after the header, or a refusal beside the zero record.
 pub struct HeaderAnswer {
@@ -58,7 +60,8 @@ fn color_channels(f: Facts, o: Opening) -> u32
 }
 
 fn blending_info(b: Blending) -> BlendingInfo
-    ensures { λ r. ⌜ r ≡ blendingInfo b ⌝ }
+    requires { ⌜ b .mode < 5 ⌝ }
+    ensures { λ r. ⌜ infoNumbers r ≡ blendingOf b ⌝ }
 {
     let mode = blend_mode_of(b.mode);
     BlendingInfo {
@@ -71,7 +74,8 @@ fn blending_info(b: Blending) -> BlendingInfo
 
 // The record of what was read.
 pub fn assemble(f: Facts, a: Front, b: Back) -> FrameHeader
-    ensures { λ r. ⌜ r ≡ frameHeader f a b ⌝ }
+    requires { ⌜ Named a b ⌝ }
+    ensures { λ r. ⌜ numbersOf r ≡ headerOf f a b ⌝ }
 {
     let o = a.opening;
     let q = a.scales;
@@ -137,7 +141,7 @@ fn no_passes() -> Passes
 
 // What stands beside a refusal.
 fn zero_header() -> FrameHeader
-    ensures { λ r. ⌜ r ≡ zeroHeader ⌝ }
+    ensures { λ r. ⌜ numbersOf r ≡ zeroHeader ⌝ }
 {
     let restoration_filter = disabled_filter();
     let passes = no_passes();
@@ -179,7 +183,7 @@ fn zero_header() -> FrameHeader
 }
 
 fn refused_header(refusal: Refusal) -> HeaderAnswer
-    ensures { λ r. ⌜ r ≡ refusedHeader refusal ⌝ }
+    ensures { λ r. ⌜ told r ≡ refusedHeader refusal ⌝ }
 {
     let header = zero_header();
     HeaderAnswer {
@@ -274,7 +278,7 @@ fn give_read(
     upsampling: &mut [u32],
     blending: &mut [u32],
 ) -> HeaderAnswer
-    requires { ⌜ Kept f (now s) a b (now ups) (now channels) ⌝ }
+    requires { ⌜ Kept f (now s) a b (now ups) (now channels) × Named (a .value) (b .value) ⌝ }
     ensures { λ r. ⌜ Filled f (now (s .entry)) a b r (now (name .entry)) (now (name .exit)) (now (upsampling .entry)) (now (upsampling .exit)) (now (blending .entry)) (now (blending .exit)) ⌝ }
 {
     let front = a.value;

@@ -1,6 +1,7 @@
 // The frame header, from `src/header.rs`: its fields, in the file's order, the entry with its lent outputs, and the questions on a header.
 mod arrays;
 mod blending;
+mod cases;
 mod closing;
 mod defaults;
 mod entry;
@@ -19,7 +20,8 @@ use types::Encoding;
 use types::FrameFlags;
 use types::FrameType;
 ghost use mathlib.Core.Path.{_≡_};
-ghost use Rattle.header.specs.Questions.{isKeyframe, canReference, frameOf};
+ghost use Rattle.header.specs.Questions.{isKeyframe, canReference};
+ghost use Rattle.header.specs.Record.{numbersOf, frameOf};
 
 // What a reader of the frame knows about the image: its size, whether it is XYB or grey, how many extra channels it has, and whether it
 // is an animation with timecodes.
@@ -97,7 +99,7 @@ impl FrameHeader {
 
     // The six numbers that geometry needs.
     pub fn frame(self) -> Frame
-        ensures { λ r. ⌜ r ≡ frameOf self ⌝ }
+        ensures { λ r. ⌜ r ≡ frameOf (numbersOf self) ⌝ }
     {
         let passes = self.passes;
         Frame {

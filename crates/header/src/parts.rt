@@ -30,7 +30,8 @@ use filter::read_restoration_filter_if;
 use numbers::read_extensions_if;
 use types::FrameFlags;
 ghost use mathlib.Core.Path.{_≡_};
-ghost use Rattle.header.specs.Header.{sentUpsampling, shown, Fronted, Backed};
+ghost use Rattle.header.specs.Header.{sentUpsampling, shown};
+ghost use Rattle.header.specs.Private.{Fronted, Backed};
 
 // all_default to the frame's size.
 pub struct Front {

@@ -20,7 +20,7 @@ use Rattle.order.proofs.Reach.{order-length}
 use Rattle.order.proofs.Checked.{checked-good}
 use Rattle.header.specs.declared.Facts.{Facts}
 use Rattle.header.specs.declared.entry.HeaderAnswer.{HeaderAnswer}
-use Rattle.header.specs.Questions.{frameOf}
+use Rattle.header.specs.Record.{frameOf}
 use Rattle.toc.specs.declared.Toc.{Toc}
 use Rattle.toc.specs.declared.TocRead.{TocRead}
 use Rattle.toc.specs.declared.TocRead.the-variants.{Table, OrderNeeded, Refused}

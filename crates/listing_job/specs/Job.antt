@@ -8,7 +8,7 @@ use Rattle.grid.specs.declared.Frame.{Frame}
 use Rattle.header.specs.declared.Facts.{Facts}
 use Rattle.header.specs.declared.entry.HeaderAnswer.{HeaderAnswer}
 use Rattle.header.specs.Entry.{judged, stands, answered}
-use Rattle.header.specs.Questions.{frameOf}
+use Rattle.header.specs.Record.{frameOf}
 use Rattle.toc.specs.declared.TocRead.{TocRead}
 use Rattle.toc.specs.declared.TocRead.the-variants.{Table, OrderNeeded, Refused}
 use Rattle.toc.specs.Reading.{Tables, tables, Reading, firstReading, after}

@@ -1,6 +1,5 @@
 -- `refuse_if`: passed by, or a fault at a place not before the start.
 use mathlib.Core.Path.{ap, _∙_}
-use Rattle.bits.specs.declared.Cursor.{Cursor}
 use Rattle.bits.specs.declared.Refusal.{Refusal}
 use borrow.Author.Needs.{needs}
 use Rattle.bits.proofs.Tables.{failed-not, failed-at}

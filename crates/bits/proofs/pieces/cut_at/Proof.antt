@@ -2,7 +2,6 @@
 use native.Mathlib.Nat.{zero-add}
 use mathlib.Core.Path.{ap}
 use Rattle.bits.specs.declared.Cursor.{Cursor}
-use Rattle.bits.specs.declared.Field.{Field}
 use borrow.Author.Needs.{needs}
 use Rattle.bits.proofs.pieces.cut_at.Statement.{statement}
 use Rattle.bits.proofs.pieces.cut_at.Tie as tie

@@ -1,7 +1,7 @@
 -- `is_there`: the definition's two tests, the second told by the eight bytes where they are there.
 use borrow.Author.Needs.{needs}
 use borrow.Author.Tests.{le-leb, lt-leb}
-use mathlib.Core.Path.{_≡_, refl, sym, _∙_}
+use mathlib.Core.Path.{_∙_}
 use native.Mathlib.Omega.{arith}
 use Prim.Native.Nat.{_+_}
 use Rattle.bits.specs.Bits.{bitCount}

@@ -1,7 +1,7 @@
 -- `take`: the bits that are there, or none.
 use borrow.Author.Needs.{needs}
 use native.Mathlib.Omega.{arith}
-use mathlib.Core.Path.{_≡_, _∙_, sym, ap}
+use mathlib.Core.Path.{_∙_, sym, ap}
 use Rattle.bits.specs.declared.window.Ahead.{Ahead}
 use Rattle.bits.proofs.Bits.{there-parts}
 use Rattle.bits.proofs.Windows.{peeked}

@@ -2,8 +2,8 @@
 use borrow.Author.Needs.{needs}
 use native.Mathlib.Omega.{arith}
 use native.Mathlib.Nat.{mod-lt, lt-of-lt-of-le}
-use Prim.Native.Nat.{ℕ, _%_, _^_, _≤_, _<_, min}
-use mathlib.Core.Path.{_≡_, _∙_, ap}
+use Prim.Native.Nat.{ℕ, _%_, _^_}
+use mathlib.Core.Path.{_∙_, ap}
 use lib.Pow.{pow-pos, pow-mono}
 use Rattle.bits.proofs.Windows.{one-shifted, masked}
 use Rattle.bits.proofs.window.low_bits.Statement.{statement}

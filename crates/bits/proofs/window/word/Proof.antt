@@ -1,7 +1,6 @@
 -- `word`: one byte after another.
 use borrow.Author.Needs.{needs}
 use native.Mathlib.Omega.{arith}
-use Prim.Native.Nat.{ℕ}
 use Rattle.bits.proofs.Windows.{byte-first, byte-more}
 use Rattle.bits.proofs.window.word.Statement.{statement}
 use Rattle.bits.proofs.window.word.Tie as tie

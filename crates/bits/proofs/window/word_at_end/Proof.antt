@@ -1,9 +1,9 @@
 -- `word_at_end`: after each turn the value is the bytes so far; behind the last there are zeros.
 use borrow.Author.Needs.{needs}
 use native.Mathlib.Omega.{arith}
-use Prim.Native.Nat.{ℕ, _+_, _-_, _*_, _%_, _^_, _≤_, _<_}
-use mathlib.Core.Path.{_≡_, refl, sym, _∙_, ap}
-use lib.ListN.{length, getD}
+use Prim.Native.Nat.{ℕ, _+_, _-_, _*_, _%_, _^_, _≤_}
+use mathlib.Core.Path.{_≡_, refl, _∙_, ap}
+use lib.ListN.{getD}
 use lib.Bits.{bitOr}
 use Rattle.bits.specs.Bits.{bitsAt}
 use Rattle.bits.proofs.Windows.{byte-more, all-bytes}

@@ -2,10 +2,8 @@
 use borrow.Author.Needs.{needs}
 use Rattle.header.proofs.arrays.read_u32_array.Statement.{statement}
 use Prim.Native.Nat.{_-_}
-use mathlib.Core.Path.{refl, sym, _∙_, ap}
-use native.Mathlib.Omega.{arith}
-use lib.ListN.{length, length-set}
-use Rattle.bits.specs.Codec.{u, u32}
+use mathlib.Core.Path.{refl}
+use Rattle.bits.specs.Codec.{u32}
 use Rattle.header.proofs.Walks.{Left, left-none, left-more, left-all}
 use Rattle.header.proofs.arrays.read_u32_array.Tie as tie
 

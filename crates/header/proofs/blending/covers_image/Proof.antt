@@ -1,6 +1,5 @@
 -- `covers_image`: both sides, or no crop.
 use borrow.Author.Needs.{needs}
-use mathlib.Core.Path.{_∙_}
 use Rattle.header.proofs.Canvas.{covers-both}
 use Rattle.header.proofs.blending.covers_image.Statement.{statement}
 use Rattle.header.proofs.blending.covers_image.Tie as tie

@@ -1,7 +1,5 @@
 -- `has_source`: by the deciding mode.
 use borrow.Author.Needs.{needs}
-use mathlib.Core.Path.{ap}
-use mathlib.Core.Bool.{not}
 use Rattle.header.proofs.Canvas.{source-own, source-given}
 use Rattle.header.proofs.blending.has_source.Statement.{statement}
 use Rattle.header.proofs.blending.has_source.Tie as tie

@@ -1,5 +1,4 @@
 -- By the selector.
-use mathlib.Core.Path.{refl}
 use borrow.Author.Tests.{eq-eqb, ne-eqb}
 use Rattle.header.proofs.blending.small_choice.Statement.{statement}
 use Rattle.header.proofs.blending.small_choice.Tie as tie

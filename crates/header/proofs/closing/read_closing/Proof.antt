@@ -1,7 +1,7 @@
 -- One call a row.
 use borrow.Author.Needs.{needs}
 use Rattle.header.specs.Closing.{closingRead}
-use mathlib.Core.Path.{refl, sym, _∙_, ap}
+use mathlib.Core.Path.{_∙_, ap}
 use Rattle.header.proofs.Bundles.{closing-law}
 use Rattle.header.proofs.closing.read_closing.Statement.{statement}
 use Rattle.header.proofs.closing.read_closing.Tie as tie

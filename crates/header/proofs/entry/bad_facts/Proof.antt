@@ -1,6 +1,5 @@
 -- Each bound.
 use borrow.Author.Needs.{needs}
-use mathlib.Core.Path.{refl, sym, _∙_, ap}
 use Rattle.header.proofs.Entering.{facts-by}
 use Rattle.header.proofs.entry.bad_facts.Statement.{statement}
 use Rattle.header.proofs.entry.bad_facts.Tie as tie

@@ -1,6 +1,5 @@
 -- 2, 1, 3 in their order.
 use borrow.Author.Needs.{needs}
-use mathlib.Core.Path.{refl, sym, _∙_, ap}
 use Rattle.header.proofs.Entering.{too-long, bad-facts, short, good}
 use Rattle.header.proofs.entry.judge_header.Statement.{statement}
 use Rattle.header.proofs.entry.judge_header.Tie as tie

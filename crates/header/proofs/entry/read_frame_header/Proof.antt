@@ -1,6 +1,6 @@
 -- Refused at once, all default, refused while reading, or accepted and filled.
 use mathlib.Core.Path.{refl}
-use Rattle.header.proofs.Entering.{refused-first, default-all, refused-later, kept-by, accepted-all}
+use Rattle.header.proofs.Entering.{refused-first, default-all, refused-later, kept-by, accepted-all, header-named}
 use borrow.Author.Needs.{needs}
 use Rattle.header.proofs.entry.read_frame_header.Statement.{statement}
 use Rattle.header.proofs.entry.read_frame_header.Tie as tie
@@ -15,7 +15,11 @@ returns-3 : tie.Need-returns-3
 returns-3 c = refused-later (c .before .before .before .before .before .before .before .before .before .before .before .before .before .before .before .before .before .before .before .before .before .before .before .before .before .args .f) (c .before .before .before .before .before .before .before .before .before .before .before .before .before .before .before .before .before .before .before .before .before .before .before .before .before .args .s .now) (c .before .before .before .before .before .before .before .before .before .before .before .before .before .before .before .before .before .before .before .before .before .before .before .before .before .args .name .now) (c .before .before .before .before .before .before .before .before .before .before .before .before .before .before .before .before .before .before .before .before .before .before .before .before .before .args .upsampling .now) (c .before .before .before .before .before .before .before .before .before .before .before .before .before .before .before .before .before .before .before .before .before .before .before .before .before .args .blending .now) _ (c .before .before .before .before .before .before .before .before .before .before .before .before .before .before .before .before .before .before .before .before .judge-header .ensures) (c .before .before .before .before .before .before .before .before .before .before .before .before .before .before .before .before .before .before .if1 .left) (c .before .before .before .before .before .before .before .before .before .before .before .before .read-front .result) (c .before .before .before .before .before .before .read-back .result) _ _ _ _ (c .before .before .before .before .before .before .before .before .before .before .before .before .read-front .ensures) (c .before .before .before .before .before .before .read-back .ensures) (c .before .if3 .taken) _ (c .refused-header2 .ensures)
 
 give-read-requires : tie.Need-give-read-requires
-give-read-requires c κs = kept-by (c .before .before .before .before .before .before .before .before .before .before .before .before .before .before .before .before .before .before .before .before .before .before .before .before .before .before .before .before .before .args .f) (c .before .before .before .before .before .before .before .before .before .before .before .before .before .before .before .before .before .before .before .before .before .before .before .before .before .before .before .before .before .args .s .now) (c .before .before .before .before .before .before .before .before .before .before .before .before .before .before .before .before .read-front .result) (c .before .before .before .before .before .before .before .before .before .before .read-back .result) _ _ _ _ refl refl (c .before .before .before .before .before .before .before .before .before .before .before .before .before .before .before .before .read-front .ensures) (c .before .before .before .before .before .before .before .before .before .before .read-back .ensures)
+give-read-requires c κs =
+    let e = c .before .before .before .before .before .before .before .before .before .before .before .before .before .before .before .before .before .before .before .before .before .before .before .before .before .before .before .before .before .args in
+    let a = c .before .before .before .before .before .before .before .before .before .before .before .before .before .before .before .before .read-front in
+    let b = c .before .before .before .before .before .before .before .before .before .before .read-back in
+    (kept-by (e .f) (e .s .now) (a .result) (b .result) _ _ _ _ refl refl (a .ensures) (b .ensures), header-named (e .f) (e .s .now) (a .result) (b .result) _ _ _ _ (a .ensures) (b .ensures))
 
 returns-4 : tie.Need-returns-4
 returns-4 c = accepted-all (c .before .before .before .before .before .before .before .before .before .before .before .before .before .before .before .before .before .before .before .before .before .before .before .before .before .before .before .before .before .before .before .before .before .before .before .before .args .f) (c .before .before .before .before .before .before .before .before .before .before .before .before .before .before .before .before .before .before .before .before .before .before .before .before .before .before .before .before .before .before .before .before .before .before .before .before .args .s .now) (c .before .before .before .before .before .before .before .before .before .before .before .before .before .before .before .before .before .before .before .before .before .before .before .before .before .before .before .before .before .before .before .before .before .before .before .before .args .name .now) (c .before .before .before .before .before .before .before .before .before .before .before .before .before .before .before .before .before .before .before .before .before .before .before .before .before .before .before .before .before .before .before .before .before .before .before .before .args .upsampling .now) (c .before .before .before .before .before .before .before .before .before .before .before .before .before .before .before .before .before .before .before .before .before .before .before .before .before .before .before .before .before .before .before .before .before .before .before .before .args .blending .now) _ (c .before .before .before .before .before .before .before .before .before .before .before .before .before .before .before .before .before .before .before .before .before .before .before .before .before .before .before .before .before .before .before .judge-header .ensures) (c .before .before .before .before .before .before .before .before .before .before .before .before .before .before .before .before .before .before .before .before .before .before .before .before .before .before .before .before .before .if1 .left) (c .before .before .before .before .before .before .before .before .before .before .before .before .before .before .before .before .before .before .before .before .before .before .before .read-front .result) (c .before .before .before .before .before .before .before .before .before .before .before .before .before .before .before .before .before .read-back .result) _ _ _ _ (c .before .before .before .before .before .before .before .before .before .before .before .before .before .before .before .before .before .before .before .before .before .before .before .read-front .ensures) (c .before .before .before .before .before .before .before .before .before .before .before .before .before .before .before .before .before .read-back .ensures) (c .before .before .before .before .before .before .before .before .before .before .before .before .if3 .left) _ _ _ _ (c .before .before .before .before .before .before .give-read .ensures)

@@ -1,6 +1,6 @@
 -- All zeros, both filters disabled.
 use borrow.Author.Needs.{needs}
-use Rattle.header.specs.Questions.{zeroHeader}
+use Rattle.header.specs.Record.{zeroHeader}
 use Rattle.header.proofs.entry.zero_header.Statement.{statement}
 use Rattle.header.proofs.entry.zero_header.Tie as tie
 

@@ -1,9 +1,7 @@
 -- One call a row.
 use borrow.Author.Needs.{needs}
-use mathlib.Core.Bool.{_&&_, not}
-use lib.Dec.{eqb}
 use Rattle.header.specs.Opening.{openingRead}
-use mathlib.Core.Path.{refl, sym, _∙_, ap}
+use mathlib.Core.Path.{_∙_, ap}
 use Rattle.header.proofs.Bundles.{opening-law}
 use Rattle.header.proofs.opening.read_opening.Statement.{statement}
 use Rattle.header.proofs.opening.read_opening.Tie as tie

@@ -1,6 +1,6 @@
 -- Two counts, and three arrays on tables of just their size.
 use borrow.Author.Needs.{needs}
-use mathlib.Core.Path.{refl, sym, _∙_, ap}
+use mathlib.Core.Path.{refl, _∙_, ap}
 use Rattle.header.specs.Shape.{passesRead}
 use Rattle.header.proofs.Bundles.{passes-law}
 use Rattle.header.proofs.shape.read_passes_if.Statement.{statement}

@@ -2,7 +2,7 @@
 use borrow.Author.Needs.{needs}
 use native.Mathlib.Omega.{arith}
 use Rattle.header.specs.Shape.{placementRead}
-use mathlib.Core.Path.{refl, sym, _∙_, ap}
+use mathlib.Core.Path.{_∙_, ap}
 use Rattle.header.proofs.Bundles.{placement-law, bits-below}
 use Rattle.header.proofs.shape.read_placement.Statement.{statement}
 use Rattle.header.proofs.shape.read_placement.Tie as tie

@@ -1,7 +1,7 @@
 -- One call a row.
 use borrow.Author.Needs.{needs}
 use Rattle.header.specs.Shape.{scalesRead}
-use mathlib.Core.Path.{refl, sym, _∙_, ap}
+use mathlib.Core.Path.{_∙_, ap}
 use Rattle.header.proofs.Bundles.{scales-law}
 use Rattle.header.proofs.shape.read_scales.Statement.{statement}
 use Rattle.header.proofs.shape.read_scales.Tie as tie
