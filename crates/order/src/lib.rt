@@ -1,12 +1,11 @@
 // Orders of sections, as the rules for sections have them: order[section] = sent number (the Rust's `original_to_bitstream`), and its
-// inverse[sent number] = section (`bitstream_to_original`). What a lent order must be, its inverse, and the two kinds of number, which only
-// these two tables turn into one another.
+// inverse[sent number] = section (`bitstream_to_original`). What a lent order must be, and the two kinds of number, which only these two
+// tables turn into one another.
 ghost use mathlib.Core.Path.{_≡_};
 ghost use mathlib.Core.Bool.{_&&_};
 ghost use Prim.Native.Nat.{_≤_};
-ghost use lib.ListN.{length, set, take};
+ghost use lib.ListN.{length};
 ghost use Rattle.order.specs.Order.{allBelow, distinct, isOrder, checked, Unmarked};
-ghost use Rattle.order.specs.Tables.{identity, filled, placed, inverted, inverseAfter};
 ghost use Rattle.order.specs.Numbers.{entryAt, sentOf, sectionOf};
 
 // The number of a section in the frame's own sequence: LfGlobal, LfGroups, HfGlobal, then for each pass its groups.
@@ -82,62 +81,6 @@ pub fn check_order(order: &[u32], count: u32) -> bits::Refusal
     } else {
         bits::refused(13, 0)
     }
-}
-
-// The first count words become 0, 1, 2, .., as far as the table goes: both orders of a table that is not permuted.
-pub fn identity_into(table: &mut [u32], count: u32)
-    ensures { λ _. ⌜ now (table .exit) ≡ filled (identity count) (now (table .entry)) ⌝ }
-{
-    let end = fill::least(count as usize, table.len());
-    let mut i: usize = 0;
-    while i < end {
-        table[i] = i as u32;
-        i += 1;
-    }
-}
-
-// The order's first count entries become the table's first words, as far as the table goes.
-pub fn order_into(order: &[u32], count: u32, table: &mut [u32])
-    ensures { λ _. ⌜ now (table .exit) ≡ filled (take count (now (order .entry))) (now (table .entry)) ⌝ }
-{
-    let end = fill::least(count as usize, order.len());
-    fill::fill_u32(table, 0, &order[..end]);
-}
-
-// Each of the order's first count sections is written at its sent number: for an order that was checked, the inverse.
-pub fn inverse_into(order: &[u32], count: u32, inverse: &mut [u32])
-    ensures { λ _. ⌜ now (inverse .exit) ≡ placed (take count (now (order .entry))) (now (inverse .entry)) ⌝ }
-{
-    let mut j: u32 = 0;
-    while j < count {
-        let i = j as usize;
-        if order.len() <= i {
-            return;
-        }
-        fill::put_u32(inverse, order[i] as usize, j);
-        j += 1;
-    }
-}
-
-// The inverse of a lent order: 10, then 3 where the lent table is shorter than count, then 13; refused, the table stays as it was.
-pub fn invert(order: &[u32], count: u32, inverse: &mut [u32]) -> bits::Refusal
-    ensures { λ r. ⌜
-        (r ≡ inverted count (now (order .entry)) (now (inverse .entry)))
-        × (now (inverse .exit) ≡ inverseAfter count (now (order .entry)) (now (inverse .entry)))
-        ⌝ }
-{
-    if 65536 < count {
-        return bits::refused(10, 0);
-    }
-    if inverse.len() < count as usize {
-        return bits::refused(3, 0);
-    }
-    let refusal = check_order(order, count);
-    if refusal.number != 0 {
-        return refusal;
-    }
-    inverse_into(order, count, inverse);
-    refusal
 }
 
 // A word of an order table. The rules have every lent order judged whole, so this walks the table once: it takes no constant time.

@@ -1,6 +1,8 @@
-// The table of contents, from `src/data/toc.rs`: both entries that read it.
+// The table of contents, from `src/data/toc.rs`: both entries that read it, and the inverse of an order.
+mod orders;
 mod reading;
 
+pub use orders::invert;
 pub use reading::read_toc;
 pub use reading::read_toc_with_order;
 

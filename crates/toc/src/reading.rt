@@ -2,6 +2,7 @@
 // the order that a flag of 1 asks for, and goes on at the padding. Nothing is written before the whole table is known to be good.
 use crate::Toc;
 use crate::TocRead;
+use crate::orders::put_orders;
 use bits::Choice;
 use bits::Cursor;
 use bits::Field;
@@ -226,23 +227,6 @@ fn fill_sizes(
             offset += x.value as u64;
             k += 1;
         }
-    }
-}
-
-// The two orders of a table: the lent one and its inverse, or the identity twice.
-fn put_orders(given: bool, lent: &[u32], count: u32, order: &mut [u32], inverse: &mut [u32])
-    requires { ⌜ (isOrder count (orderBy given (now lent) count) ≡ true) × (count ≤ length (now inverse)) ⌝ }
-    ensures { λ _. ⌜
-        (now (order .exit) ≡ filled (orderBy given (now (lent .entry)) count) (now (order .entry)))
-        × (now (inverse .exit) ≡ filled (inverseOf count (orderBy given (now (lent .entry)) count)) (now (inverse .entry)))
-        ⌝ }
-{
-    if given {
-        order::order_into(lent, count, order);
-        order::inverse_into(lent, count, inverse);
-    } else {
-        order::identity_into(order, count);
-        order::identity_into(inverse, count);
     }
 }
 

@@ -3,9 +3,9 @@ use borrow.Author.Needs.{needs}
 use native.Mathlib.Omega.{arith}
 use Prim.Native.Nat.{_-_}
 use lib.ListN.{take}
 use Rattle.order.proofs.Placed.{Placing, placing-none, placing-more, placing-all}
-use Rattle.order.proofs.inverse_into.Statement.{statement}
-use Rattle.order.proofs.inverse_into.Tie as tie
+use Rattle.toc.proofs.orders.inverse_into.Statement.{statement}
+use Rattle.toc.proofs.orders.inverse_into.Tie as tie
 
 abbrev Inv-loop : tie.InvT-loop
 Inv-loop order count inverse₀ j₀ inverse j = Placing (λ k. k) (take count order) inverse₀ inverse j

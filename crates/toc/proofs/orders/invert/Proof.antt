@@ -1,8 +1,8 @@
 -- `invert`: the refusals in their order, then the sections placed one by one.
 use Rattle.order.proofs.Inverting.{invert-many, invert-short, invert-bad, invert-done}
 use borrow.Author.Needs.{needs}
-use Rattle.order.proofs.invert.Statement.{statement}
-use Rattle.order.proofs.invert.Tie as tie
+use Rattle.toc.proofs.orders.invert.Statement.{statement}
+use Rattle.toc.proofs.orders.invert.Tie as tie
 
 returns : tie.Need-returns
 returns c =

@@ -3,11 +3,11 @@ use borrow.Author.Needs.{needs}
 use native.Mathlib.Omega.{arith}
 use Prim.Native.Nat.{_-_}
 use Rattle.fill.proofs.Filling.{Values}
 use Rattle.order.specs.Tables.{identity}
 use Rattle.order.proofs.Inverse.{identity-length}
 use Rattle.order.proofs.Fill.{counted-none, counted-more, counted-all}
-use Rattle.order.proofs.identity_into.Statement.{statement}
-use Rattle.order.proofs.identity_into.Tie as tie
+use Rattle.toc.proofs.orders.identity_into.Statement.{statement}
+use Rattle.toc.proofs.orders.identity_into.Tie as tie
 
 abbrev Inv-loop : tie.InvT-loop
 Inv-loop table₀ count end i₀ table i = Values table₀ 0 (identity count) end table i

@@ -3,9 +3,9 @@ use borrow.Author.Needs.{needs}
 use native.Mathlib.Omega.{arith}
 use mathlib.Core.Path.{sym}
 use lib.Seq.{length-take-le}
 use Rattle.order.proofs.Fill.{copied}
-use Rattle.order.proofs.order_into.Statement.{statement}
-use Rattle.order.proofs.order_into.Tie as tie
+use Rattle.toc.proofs.orders.order_into.Statement.{statement}
+use Rattle.toc.proofs.orders.order_into.Tie as tie
 
 entries : tie.Need-slice-aggregate-fill-u32
 entries c = sym (length-take-le _ (c .before .before .before .before .before .args .order .now) (omega (arith, c .before .before .least .ensures)))

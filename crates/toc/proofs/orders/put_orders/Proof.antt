@@ -1,8 +1,8 @@
 -- `put_orders`: the lent order and its inverse, or the identity twice.
 use borrow.Author.Needs.{needs}
 use Rattle.toc.proofs.Entering.{orders-lent, orders-identity}
-use Rattle.toc.proofs.reading.put_orders.Statement.{statement}
-use Rattle.toc.proofs.reading.put_orders.Tie as tie
+use Rattle.toc.proofs.orders.put_orders.Statement.{statement}
+use Rattle.toc.proofs.orders.put_orders.Tie as tie
 
 returns : tie.Need-returns
 returns c =
