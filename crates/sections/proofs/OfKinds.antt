@@ -21,8 +21,7 @@ use Rattle.order.proofs.Entries.{split}
 use Rattle.sections.specs.declared.TocGroupKind.{TocGroupKind}
 use Rattle.sections.specs.declared.TocGroupKind.the-variants.{All, LfGlobal, LfGroup, HfGlobal, GroupPass}
 use Rattle.sections.specs.declared.KindNumbers.{KindNumbers}
-use Rattle.sections.specs.declared.KindAnswer.{KindAnswer}
-use Rattle.sections.specs.Kinds.{numbersOf, hasKind, sectionNumber, kindAt, sectionAnswer, sectionOfKind, kindOf}
+use Rattle.sections.specs.Kinds.{numbersOf, hasKind, sectionNumber, kindAt, sectionAnswer, sectionOfKind, KindTold, kindOf}
 use Rattle.sections.proofs.Counts.{Counts, counts}
 
 -- whether the frame has a kind, by the kind's number
@@ -114,11 +113,11 @@ module _ (f : Frame) (g : Grid) (m : g ≡ gridOf f) (r : Refusal) where
     of-kind-yes n h e = rw (← m, ← ek, ← en, ← er, ← e) (section-yes r n h)
 
   module _ (section : SectionNumber) (er : r ≡ judge g (ltb (section .0) (g .sections))) where
-    pub kind-no : (r .number ≡ 0 → ⊥) → _≡_ {A = KindAnswer} (record { kind = All; refusal = r }) (kindOf f section)
+    pub kind-no : (r .number ≡ 0 → ⊥) → _≡_ {A = KindTold} (record { numbers = numbersOf All; refusal = r }) (kindOf f section)
     unfolding kindOf
     kind-no h = rw (← m, ← er, ne-eqb (r .number) 0 h)
 
-    pub kind-yes : (k : TocGroupKind) → r .number ≡ 0 → k ≡ kindAt g (section .0) → _≡_ {A = KindAnswer} (record { kind = k; refusal = r }) (kindOf f section)
+    pub kind-yes : (k : TocGroupKind) → r .number ≡ 0 → k ≡ kindAt g (section .0) → _≡_ {A = KindTold} (record { numbers = numbersOf k; refusal = r }) (kindOf f section)
     unfolding kindOf
     kind-yes k h e = rw (← m, ← er, eq-eqb (r .number) 0 h, ← e)
 

@@ -67,10 +67,18 @@ unfoldable pub sectionOfKind : Frame → TocGroupKind → SectionAnswer
 sectionOfKind f kind =
     sectionAnswer (judge (gridOf f) (hasKind (gridOf f) (f .«num_passes») (numbersOf kind))) (sectionNumber (gridOf f) (numbersOf kind))
 
+-- what an answer says, its kind by number and values
+pub record KindTold : Type 0 where
+  pub numbers : KindNumbers
+  pub refusal : Refusal
+
+abbrev pub kindTold : KindAnswer → KindTold
+kindTold a = record { numbers = numbersOf (a .kind); refusal = a .refusal }
+
 -- the same the other way; a kind beside a refusal is All, number 0
-unfoldable pub kindOf : Frame → SectionNumber → KindAnswer
+unfoldable pub kindOf : Frame → SectionNumber → KindTold
 kindOf f section =
     record {
-      kind = pick (eqb (judge (gridOf f) (ltb (section .0) (gridOf f .sections)) .number) 0) (kindAt (gridOf f) (section .0)) All;
+      numbers = numbersOf (pick (eqb (judge (gridOf f) (ltb (section .0) (gridOf f .sections)) .number) 0) (kindAt (gridOf f) (section .0)) All);
       refusal = judge (gridOf f) (ltb (section .0) (gridOf f .sections));
     }

@@ -11,7 +11,7 @@ use order::SectionNumber;
 ghost use mathlib.Core.Path.{_≡_};
 ghost use Prim.Native.Nat.{_*_, _%_, _^_, _≤_, _<_};
 ghost use Rattle.grid.specs.Groups.{indexAt};
-ghost use Rattle.sections.specs.Kinds.{numbersOf, hasKind, sectionNumber, kindAt, sectionOfKind, kindOf};
+ghost use Rattle.sections.specs.Kinds.{numbersOf, hasKind, sectionNumber, kindAt, sectionOfKind, kindTold, kindOf};
 ghost use Rattle.sections.specs.Lookups.{sampleKind, hasSample, sectionOfSample};
 
 // A kind's number and values.
@@ -131,7 +131,7 @@ fn kind_at(g: Grid, i: u32) -> TocGroupKind
 
 // A section number to its kind: 8, 9, 10, then 14 where the frame has no such section.
 pub fn kind_of(f: Frame, section: SectionNumber) -> KindAnswer
-    ensures { λ r. ⌜ r ≡ kindOf f section ⌝ }
+    ensures { λ r. ⌜ kindTold r ≡ kindOf f section ⌝ }
 {
     let g = grid::measure(f);
     let i = section.0;

@@ -30,8 +30,8 @@ use Rattle.toc.specs.declared.Toc.{Toc}
 use Rattle.toc.specs.declared.TocRead.{TocRead}
 use Rattle.toc.specs.declared.TocRead.the-variants.{Table, OrderNeeded, Refused}
 use Rattle.toc.specs.Sizes.{Sent, sizeRows, tocRows}
-use Rattle.toc.specs.Walks.{sizeAt, offsetAt, padded, walked, Room, orderBy}
-use Rattle.toc.specs.Reading.{Tables, roomy, judgedBy, judged, judgedOrder, Reading, tocOf, sizedAnswer, firstRead, secondRead, sizedReading, refusedRead, firstReading, secondReading, tablesOf, written, after, Done}
+use Rattle.toc.specs.Private.{sizeAt, offsetAt, padded, walked, Room, orderBy}
+use Rattle.toc.specs.Reading.{tocNumbers, Tables, roomy, judgedBy, judged, judgedOrder, Reading, tocOf, sizedAnswer, firstRead, secondRead, sizedReading, refusedRead, firstReading, secondReading, tablesOf, written, after, Done}
 use Rattle.toc.proofs.Walking.{rows-read}
 use Rattle.toc.proofs.Judging.{room-parts, Fair, judged-fair}
 use Rattle.toc.proofs.Filling.{sent-before, placed-by-section, offsets-by, sizes-by}
@@ -73,7 +73,7 @@ pub done-kept : (q : Reading) (t : Tables) (a : TocRead) → q .answer ≡ a →
 done-kept q t a e same =
     let stays : after q t ≡ t = ap (λ (x : TocRead). written x (q .sizes) (q .order) t) e ∙ same (q .sizes) (q .order) in
     record {
-      answer = sym e;
+      answer = ap tocNumbers (sym e);
       offsets = sym (ap (λ (x : Tables). x .offsets) stays);
       sizes = sym (ap (λ (x : Tables). x .sizes) stays);
       order = sym (ap (λ (x : Tables). x .order) stays);
@@ -132,7 +132,7 @@ module _ (s : List ℕ) (c : Cursor) (count : ℕ) (l : List ℕ) (w : Walk) (ew
       let eo' : o' ≡ placedBy (offsetAt s (padded s c) (w .last .at / 8)) 0 (take count i') (t .offsets) = rw walk-first at eo in
       let es' : s' ≡ placedBy (sizeAt s (padded s c)) 0 (take count i') (t .sizes) = rw walk-first at es in
       record {
-        answer = sym (answer-is ∙ toc-is h);
+        answer = ap tocNumbers (sym (answer-is ∙ toc-is h));
         offsets =
             eo'
             ∙ placed-by-section count l o (offsetAt s (padded s c) (w .last .at / 8)) (t .inverse) i' (t .offsets) ei (room .inverse) (room .offsets)

@@ -16,7 +16,7 @@ use Rattle.order.proofs.Inverse.{inverse-length}
 use Rattle.order.proofs.Tables.{getD-tabulate, tabulate-ext}
 use Rattle.order.proofs.Placed.{placed-through}
 use Rattle.toc.specs.Sizes.{sentBefore, offsetsBy, sizesBy}
-use Rattle.toc.specs.Walks.{sizeAt, offsetAt}
+use Rattle.toc.specs.Private.{sizeAt, offsetAt}
 
 -- the first words of a filled table are the new ones
 pub take-filled : (new table : List ℕ) (count : ℕ) → length new ≡ count → count ≤ length table → take count (filled new table) ≡ new

@@ -11,7 +11,7 @@ use Rattle.bits.specs.declared.Refusal.{Refusal}
 use Rattle.bits.specs.Refusals.{pick, refusal, none}
 use Rattle.grid.specs.declared.Grid.{Grid}
 use Rattle.grid.proofs.Accepted.{and-parts}
-use Rattle.toc.specs.Walks.{Room}
+use Rattle.toc.specs.Private.{Room}
 use Rattle.toc.specs.Reading.{roomFor, judgedBy}
 
 pub room-by : (count o s p i : ℕ) (a b r : Bool) → a ≡ (leb count o && leb count s) → b ≡ (leb count p && leb count i) → r ≡ (a && b) → r ≡ roomFor count o s p i

@@ -24,7 +24,7 @@ use Rattle.bits.proofs.Views.{Held, held-less, held-ahead, fieldOf, see-choice}
 use Rattle.bits.proofs.Steps.{field-place}
 use Rattle.toc.specs.declared.reading.Pair.{Pair}
 use Rattle.toc.specs.Sizes.{sizeChoices}
-use Rattle.toc.specs.Walks.{seenSize, Two}
+use Rattle.toc.specs.Private.{seenSize, Two}
 
 -- four bytes of one number are the four widths
 pub size-widths : (k : ℕ) → k < 4 → 504761866 / 2 ^ (8 * k) % 2 ^ 8 ≡ chosen sizeChoices k .bits

@@ -27,7 +27,7 @@ use Rattle.toc.specs.declared.reading.Pair.{Pair}
 use Rattle.toc.specs.declared.reading.Summed.{Summed}
 use Rattle.toc.specs.declared.reading.Walk.{Walk}
 use Rattle.toc.specs.Sizes.{sizeChoices, sizeRow, sizeRows}
-use Rattle.toc.specs.Walks.{cursorAt, sizeAt, offsetAt, Two, padded, summed, walked}
+use Rattle.toc.specs.Private.{cursorAt, sizeAt, offsetAt, Two, padded, summed, walked}
 
 -- a size is below 4211712 + 2^30
 pub choice-small : (k : ℕ) → chosen sizeChoices k .base + 2 ^ chosen sizeChoices k .bits ≤ 1077953536

@@ -1,3 +1,3 @@
 pub mod Sizes
-pub mod Walks
 pub mod Reading
+pub mod Private

@@ -55,6 +55,22 @@ unfoldable pub judgedOrder : List ℕ → Grid → ℕ → List ℕ → Tables �
 judgedOrder s g place lent t =
     pick (eqb (judged s g place t .number) 0) (checked (g .sections) lent) (judged s g place t)
 
+-- What an answer says, by number and values: 0 and a table; 255 and the place after the flag ("order needed", which has no number in the rules); else the
+-- number of a refusal, and the refusal.
+pub record TocNumbers : Type 0 where
+  pub number : ℕ
+  pub toc : Toc
+  pub next : ℕ
+  pub refusal : Refusal
+
+abbrev pub noToc : Toc
+noToc = record { count = 0; bookmark = 0; «total_byte_size» = 0 }
+
+abbrev pub tocNumbers : TocRead → TocNumbers
+tocNumbers (Table toc) = record { number = 0; toc = toc; next = 0; refusal = none }
+tocNumbers (OrderNeeded place) = record { number = 255; toc = noToc; next = place; refusal = none }
+tocNumbers (Refused r) = record { number = r .number; toc = noToc; next = 0; refusal = r }
+
 -- what a reading comes to: the answer, and beside a table its order and its sizes as sent
 pub record Reading : Type 0 where
   pub answer : TocRead
@@ -122,9 +138,9 @@ written (Refused r) sizes order t = t
 abbrev pub after : Reading → Tables → Tables
 after r t = written (r .answer) (r .sizes) (r .order) t
 
--- what an entry promises: its answer, and every word of the four tables
+-- what an entry promises: its answer's number and values, and every word of the four tables
 pub record Done (r : Reading) (before : Tables) (result : TocRead) (o s p i : List ℕ) : Type 0 where
-  pub answer : result ≡ r .answer
+  pub answer : tocNumbers result ≡ tocNumbers (r .answer)
   pub offsets : o ≡ after r before .offsets
   pub sizes : s ≡ after r before .sizes
   pub order : p ≡ after r before .order

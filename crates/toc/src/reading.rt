@@ -20,7 +20,7 @@ ghost use Rattle.bits.specs.Codec.{u32, chosen, field};
 ghost use Rattle.order.specs.Order.{isOrder};
 ghost use Rattle.order.specs.Tables.{inverseOf, filled, placedBy};
 ghost use Rattle.toc.specs.Sizes.{sizeChoices};
-ghost use Rattle.toc.specs.Walks.{summed, walked, sizeAt, offsetAt, seenSize, Two, Room, orderBy};
+ghost use Rattle.toc.specs.Private.{summed, walked, sizeAt, offsetAt, seenSize, Two, Room, orderBy};
 
 // Whether each of four tables has a word for each section.
 fn has_room(count: u32, offsets: usize, sizes: usize, order: usize, inverse: usize) -> bool

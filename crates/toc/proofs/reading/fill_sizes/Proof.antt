@@ -4,7 +4,7 @@ use Prim.Native.Nat.{_+_, _-_, _≤_}
 use borrow.Author.Tests.{leb-true}
 use lib.ListN.{take}
 use Rattle.order.proofs.Placed.{Placing, placing-none, placing-all}
-use Rattle.toc.specs.Walks.{sizeAt, offsetAt}
+use Rattle.toc.specs.Private.{sizeAt, offsetAt}
 use Rattle.toc.proofs.Walking.{Walking, walking-none, walking-size, walking-more, walking-fits, pair-between, pair-first, pair-second, pair-first-fits, pair-second-fits, pair-more, turn-more, turn-two}
 use borrow.Author.Needs.{needs}
 use Rattle.toc.proofs.reading.fill_sizes.Statement.{statement}

@@ -2,7 +2,7 @@
 use borrow.Author.Needs.{needs}
 use native.Mathlib.Omega.{arith}
 use Rattle.toc.specs.Reading.{tables}
-use Rattle.toc.specs.Walks.{orderBy}
+use Rattle.toc.specs.Private.{orderBy}
 use Rattle.toc.proofs.Entering.{done-fault, done-table}
 use Rattle.toc.proofs.reading.read_sizes.Statement.{statement}
 use Rattle.toc.proofs.reading.read_sizes.Tie as tie

@@ -1,4 +1,5 @@
--- The walk over the sizes, one by one: what the private functions of the walk promise. That it is the table's own reading is a law.
+-- What private functions promise: the walk over the sizes, one by one. That it is the table's own reading is a law. Nothing that a caller is
+-- promised names these.
 use Prim.Native.Nat.{ℕ, zero, suc, _+_, _≤_}
 use mathlib.Core.Path.{_≡_}
 use mathlib.Core.List.{List}
