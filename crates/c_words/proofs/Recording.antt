@@ -16,8 +16,9 @@ use Rattle.header.specs.declared.Facts.{Facts}
 use Rattle.header.specs.declared.FrameHeader.{FrameHeader}
 use Rattle.header.specs.declared.entry.HeaderAnswer.{HeaderAnswer}
 use Rattle.header.specs.Header.{Header}
+use Rattle.header.specs.Record.{numbersOf}
 use Rattle.types.specs.Types.{frameTypeNumber, encodingNumber, blendModeNumber}
-use Rattle.header.specs.Entry.{badFacts, judged, stands, answered, refusedHeader, Headed}
+use Rattle.header.specs.Entry.{badFacts, judged, stands, told, answered, refusedHeader, Headed}
 use Rattle.c_words.specs.Status.{statusOf}
 use Rattle.c_words.specs.Records.{bit}
 use Rattle.c_words.specs.Heading.{frontWords, backWords, frontAfter, arraysAfter, wordsAfter, signedAfter, floatsAfter, HandedOut, recordRoom, noRecord}
@@ -25,7 +26,7 @@ use Rattle.c_words.specs.Heading.{frontWords, backWords, frontAfter, arr
 pub front-is : (h : FrameHeader) (k e y : ℕ) → k ≡ frameTypeNumber (h .«frame_type») → e ≡ encodingNumber (h .encoding) → y ≡ bit (h .«do_ycbcr»)
     → _≡_ {A = List ℕ}
     (k ∷ e ∷ y ∷ h .«encoded_color_channels» ∷ h .upsampling ∷ h .«group_size_shift» ∷ h .«x_qm_scale» ∷ h .«b_qm_scale» ∷ h .passes .«num_passes» ∷ h .passes .«num_ds» ∷ [])
-    (frontWords h)
+    (frontWords (numbersOf h))
 unfolding frontWords
 front-is h k e y ek ee ey = rw (ek, ee, ey)
 
@@ -34,13 +35,13 @@ pub back-is : (h : FrameHeader) (c m l s r b g e : ℕ) → c ≡ bit (h .«have
     → g ≡ bit (h .«restoration_filter» .gab .enabled) → e ≡ bit (h .«restoration_filter» .epf .enabled)
     → _≡_ {A = List ℕ}
     (h .«lf_level» ∷ c ∷ h .width ∷ h .height ∷ m ∷ h .«blending_info» .«alpha_channel» ∷ l ∷ h .«blending_info» .source ∷ h .duration ∷ h .timecode ∷ s
-    ∷ h .«save_as_reference» ∷ r ∷ b ∷ h .«name_length» ∷ g ∷ e ∷ h .«restoration_filter» .epf .params .iters ∷ [])
-    (backWords h)
+    ∷ h .«save_as_reference» ∷ r ∷ b ∷ h .«name_length» ∷ g ∷ e ∷ h .«restoration_filter» .epf .iters ∷ [])
+    (backWords (numbersOf h))
 unfolding backWords
 back-is h c m l s r b g e ec em el es er eb eg ee = rw (ec, em, el, es, er, eb, eg, ee)
 
-pub front-put : (a : HeaderAnswer) (front o o0 o1 o2 : List ℕ) → front ≡ frontWords (a .header) → o0 ≡ set o 0 (a .end) → o1 ≡ set o0 1 (a .header .flags .0)
-    → o2 ≡ sets o1 2 front → o2 ≡ frontAfter a o
+pub front-put : (a : HeaderAnswer) (front o o0 o1 o2 : List ℕ) → front ≡ frontWords (numbersOf (a .header)) → o0 ≡ set o 0 (a .end) → o1 ≡ set o0 1 (a .header .flags .0)
+    → o2 ≡ sets o1 2 front → o2 ≡ frontAfter (told a) o
 unfolding frontAfter
 front-put a front o o0 o1 o2 ef e0 e1 e2 = rw (e2, e1, e0, ef)
 
@@ -49,12 +50,12 @@ pub four-put : {A : Type 0} (i j k l : ℕ) (a b c d o o0 o1 o2 o3 : List A) →
     → o3 ≡ sets (sets (sets (sets o i a) j b) k c) l d
 four-put i j k l a b c d o o0 o1 o2 o3 e0 e1 e2 e3 = rw (e3, e2, e1, e0)
 
-pub words-put : (a : HeaderAnswer) (back o o0 o12 o33 : List ℕ) → back ≡ backWords (a .header) → o0 ≡ frontAfter a o → o12 ≡ arraysAfter (a .header .«jpeg_upsampling») (a .header .passes) o0
-    → o33 ≡ sets o12 33 back → o33 ≡ wordsAfter a o
+pub words-put : (a : HeaderAnswer) (back o o0 o12 o33 : List ℕ) → back ≡ backWords (numbersOf (a .header)) → o0 ≡ frontAfter (told a) o → o12 ≡ arraysAfter (a .header .«jpeg_upsampling») (a .header .passes) o0
+    → o33 ≡ sets o12 33 back → o33 ≡ wordsAfter (told a) o
 unfolding wordsAfter
 words-put a back o o0 o12 o33 eb e0 e12 e33 = rw (e33, e12, e0, eb)
 
-pub signed-are : (h : FrameHeader) (x y : ℤ) (o o0 o1 : List ℤ) → x ≡ h .x0 → y ≡ h .y0 → o0 ≡ set o 0 x → o1 ≡ set o0 1 y → o1 ≡ signedAfter h o
+pub signed-are : (h : FrameHeader) (x y : ℤ) (o o0 o1 : List ℤ) → x ≡ h .x0 → y ≡ h .y0 → o0 ≡ set o 0 x → o1 ≡ set o0 1 y → o1 ≡ signedAfter (numbersOf h) o
 signed-are h x y o o0 o1 ex ey e0 e1 = e1 ∙ rw (e0, ex, ey)
 
 pub room-is : (w s f : ℕ) (a b : Bool) → a ≡ (leb 2 s && leb 22 f) → b ≡ (leb 51 w && a) → b ≡ recordRoom w s f
@@ -62,14 +63,14 @@ room-is w s f a b ea eb = eb ∙ rw ea
 
 -- the record's slices, refused or not
 module _ (a : HeaderAnswer) (word : ℕ) (ew : word ≡ statusOf (a .refusal)) (words : List ℕ) (signed : List ℤ) (floats : List Float) where
-  pub handed-none : (a .refusal .number ≡ 0 → ⊥) → HandedOut a word words words signed signed floats floats
+  pub handed-none : (a .refusal .number ≡ 0 → ⊥) → HandedOut (told a) word words words signed signed floats floats
   handed-none h =
       let no : eqb (a .refusal .number) 0 ≡ false = ne-eqb (a .refusal .number) 0 h in
       record { status = ew; numbers = rw no; signs = rw no; reals = rw no }
 
-  pub handed-all : a .refusal .number ≡ 0 → (words' : List ℕ) (signed' : List ℤ) (floats' : List Float) → words' ≡ wordsAfter a words
-      → signed' ≡ signedAfter (a .header) signed → floats' ≡ floatsAfter (a .header .«restoration_filter») floats
-      → HandedOut a word words words' signed signed' floats floats'
+  pub handed-all : a .refusal .number ≡ 0 → (words' : List ℕ) (signed' : List ℤ) (floats' : List Float) → words' ≡ wordsAfter (told a) words
+      → signed' ≡ signedAfter (numbersOf (a .header)) signed → floats' ≡ floatsAfter (a .header .«restoration_filter») floats
+      → HandedOut (told a) word words words' signed signed' floats floats'
   handed-all h words' signed' floats' e1 e2 e3 =
       let yes : eqb (a .refusal .number) 0 ≡ true = eq-eqb (a .refusal .number) 0 h in
       record { status = ew; numbers = e1 ∙ rw yes; signs = e2 ∙ rw yes; reals = e3 ∙ rw yes }

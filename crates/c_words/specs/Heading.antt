@@ -12,12 +12,10 @@ use Rattle.bits.specs.declared.Refusal.{Refusal}
 use Rattle.bits.specs.Refusals.{pick, refusal}
 use Rattle.filter.specs.declared.RestorationFilter.{RestorationFilter}
 use Rattle.header.specs.declared.Facts.{Facts}
-use Rattle.header.specs.declared.FrameHeader.{FrameHeader}
-use Rattle.header.specs.declared.entry.HeaderAnswer.{HeaderAnswer}
 use Rattle.header.specs.declared.shape.Passes.{Passes}
 use Rattle.header.specs.Blending.{words}
-use Rattle.types.specs.Types.{frameTypeNumber, encodingNumber, blendModeNumber}
-use Rattle.header.specs.Entry.{badFacts, judged, stands, answered, kept}
+use Rattle.header.specs.Record.{HeaderNumbers}
+use Rattle.header.specs.Entry.{badFacts, judged, stands, HeaderTold, answered, kept}
 use Rattle.c_words.specs.Status.{statusOf}
 use Rattle.c_words.specs.Records.{bit}
 
@@ -33,10 +31,10 @@ facts width height xyb grey extra animation timecodes = record {
 }
 
 -- words 2 to 11
-unfoldable pub frontWords : FrameHeader → List ℕ
+unfoldable pub frontWords : HeaderNumbers → List ℕ
 frontWords h =
-    frameTypeNumber (h .«frame_type»)
-    ∷ encodingNumber (h .encoding)
+    h .«frame_type»
+    ∷ h .encoding
     ∷ bit (h .«do_ycbcr»)
     ∷ h .«encoded_color_channels»
     ∷ h .upsampling
@@ -48,13 +46,13 @@ frontWords h =
     ∷ []
 
 -- words 33 to 50
-unfoldable pub backWords : FrameHeader → List ℕ
+unfoldable pub backWords : HeaderNumbers → List ℕ
 backWords h =
     h .«lf_level»
     ∷ bit (h .«have_crop»)
     ∷ h .width
     ∷ h .height
-    ∷ blendModeNumber (h .«blending_info» .mode)
+    ∷ h .«blending_info» .mode
     ∷ h .«blending_info» .«alpha_channel»
     ∷ bit (h .«blending_info» .clamp)
     ∷ h .«blending_info» .source
@@ -67,32 +65,32 @@ backWords h =
     ∷ h .«name_length»
     ∷ bit (h .«restoration_filter» .gab .enabled)
     ∷ bit (h .«restoration_filter» .epf .enabled)
-    ∷ h .«restoration_filter» .epf .params .iters
+    ∷ h .«restoration_filter» .epf .iters
     ∷ []
 
 -- words 0 to 11: the bit place after the header, the flags, then those
-unfoldable pub frontAfter : HeaderAnswer → List ℕ → List ℕ
-frontAfter a out = sets (set (set out 0 (a .end)) 1 (a .header .flags .0)) 2 (frontWords (a .header))
+unfoldable pub frontAfter : HeaderTold → List ℕ → List ℕ
+frontAfter a out = sets (set (set out 0 (a .end)) 1 (a .header .flags)) 2 (frontWords (a .header))
 
 -- words 12 to 32: three of jpeg_upsampling, ten of shift, four of downsample, four of last_pass
 unfoldable pub arraysAfter : List ℕ → Passes → List ℕ → List ℕ
 arraysAfter jpeg passes out = sets (sets (sets (sets out 12 jpeg) 15 (passes .shift)) 25 (passes .downsample)) 29 (passes .«last_pass»)
 
 -- all 51 words
-unfoldable pub wordsAfter : HeaderAnswer → List ℕ → List ℕ
+unfoldable pub wordsAfter : HeaderTold → List ℕ → List ℕ
 wordsAfter a out = sets (arraysAfter (a .header .«jpeg_upsampling») (a .header .passes) (frontAfter a out)) 33 (backWords (a .header))
 
 -- x0, y0
-abbrev pub signedAfter : FrameHeader → List ℤ → List ℤ
+abbrev pub signedAfter : HeaderNumbers → List ℤ → List ℤ
 signedAfter h out = set (set out 0 (h .x0)) 1 (h .y0)
 
 -- the sigma values, and the modular sigma
 abbrev pub lastFloats : RestorationFilter → List Float
 lastFloats f =
-    f .epf .params .sigma .«quant_mul»
-    ∷ f .epf .params .sigma .«pass0_sigma_scale»
-    ∷ f .epf .params .sigma .«pass2_sigma_scale»
-    ∷ f .epf .params .sigma .«border_sad_mul»
+    f .epf .params .«quant_mul»
+    ∷ f .epf .params .«pass0_sigma_scale»
+    ∷ f .epf .params .«pass2_sigma_scale»
+    ∷ f .epf .params .«border_sad_mul»
     ∷ f .epf .params .«sigma_for_modular»
     ∷ []
 
@@ -102,7 +100,7 @@ floatsAfter f out =
     sets (sets (sets (sets out 0 (f .gab .weights)) 6 (f .epf .params .«sharp_lut»)) 14 (f .epf .params .«channel_scale»)) 17 (lastFloats f)
 
 -- a record's slices, written unless it is refused
-pub record HandedOut (a : HeaderAnswer) (word : ℕ) (words words' : List ℕ) (signed signed' : List ℤ) (floats floats' : List Float) : Type 0 where
+pub record HandedOut (a : HeaderTold) (word : ℕ) (words words' : List ℕ) (signed signed' : List ℤ) (floats floats' : List Float) : Type 0 where
   pub status : word ≡ statusOf (a .refusal)
   pub numbers : words' ≡ pick (eqb (a .refusal .number) 0) (wordsAfter a words) words
   pub signs : signed' ≡ pick (eqb (a .refusal .number) 0) (signedAfter (a .header) signed) signed

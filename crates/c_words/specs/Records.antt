@@ -16,12 +16,11 @@ use Rattle.order.specs.declared.SectionNumber.{SectionNumber}
 use Rattle.order.specs.declared.SentNumber.{SentNumber}
 use Rattle.order.specs.declared.SectionAnswer.{SectionAnswer}
 use Rattle.order.specs.declared.SentAnswer.{SentAnswer}
-use Rattle.sections.specs.declared.KindAnswer.{KindAnswer}
 use Rattle.sections.specs.declared.KindNumbers.{KindNumbers}
 use Rattle.sections.specs.declared.SectionPlace.{SectionPlace}
 use Rattle.sections.specs.declared.TocGroupKind.{TocGroupKind}
 use Rattle.sections.specs.declared.TocGroupKind.the-variants.{All, LfGlobal, LfGroup, HfGlobal, GroupPass}
-use Rattle.sections.specs.Kinds.{numbersOf, sectionOfKind}
+use Rattle.sections.specs.Kinds.{KindTold, sectionOfKind}
 use Rattle.sections.specs.Kinds as kinds
 use Rattle.c_words.specs.Answers.{Answer, answer}
 
@@ -77,8 +76,8 @@ gridAnswer g =
 abbrev pub kindWords : KindNumbers → List ℕ
 kindWords k = k .kind ∷ k .«pass_idx» ∷ k .«group_idx» ∷ []
 
-abbrev pub kindAnswer : KindAnswer → Answer
-kindAnswer a = answer (a .refusal) (kindWords (numbersOf (a .kind)))
+abbrev pub kindAnswer : KindTold → Answer
+kindAnswer a = answer (a .refusal) (kindWords (a .numbers))
 
 -- offset, size
 abbrev pub placeAnswer : SectionPlace → Answer

@@ -11,6 +11,8 @@ use types::Encoding;
 use types::FrameType;
 ghost use mathlib.Core.Path.{_≡_};
 ghost use lib.ListN.{length};
+ghost use Rattle.header.specs.Entry.{told};
+ghost use Rattle.header.specs.Record.{numbersOf};
 ghost use Rattle.types.specs.Types.{frameTypeNumber, encodingNumber, blendModeNumber};
 ghost use Rattle.c_words.specs.Records.{bit};
 ghost use Rattle.c_words.specs.Heading.{recordRoom, frontWords, backWords, frontAfter, arraysAfter, wordsAfter, signedAfter, floatsAfter, noRecord, HandedOut};
@@ -57,7 +59,7 @@ fn bit(b: bool) -> u32
 
 // Words 2 to 11.
 fn front_words(h: FrameHeader) -> [u32; 10]
-    ensures { λ r. ⌜ r ≡ frontWords h ⌝ }
+    ensures { λ r. ⌜ r ≡ frontWords (numbersOf h) ⌝ }
 {
     let passes = h.passes;
     let frame_type = h.frame_type;
@@ -81,13 +83,12 @@ fn front_words(h: FrameHeader) -> [u32; 10]
 
 // Words 33 to 50.
 fn back_words(h: FrameHeader) -> [u32; 18]
-    ensures { λ r. ⌜ r ≡ backWords h ⌝ }
+    ensures { λ r. ⌜ r ≡ backWords (numbersOf h) ⌝ }
 {
     let info = h.blending_info;
     let filter = h.restoration_filter;
     let gab = filter.gab;
     let epf = filter.epf;
-    let params = epf.params;
     let crop = bit(h.have_crop);
     let blend = info.mode;
     let mode = blend_mode_number(blend);
@@ -115,13 +116,13 @@ fn back_words(h: FrameHeader) -> [u32; 18]
         h.name_length,
         gabor,
         edges,
-        params.iters,
+        epf.iters,
     ]
 }
 
 // Words 0 to 11: the end and the flags, then numbers.
 fn give_front(a: HeaderAnswer, out: &mut [u64])
-    ensures { λ _. ⌜ now (out .exit) ≡ frontAfter a (now (out .entry)) ⌝ }
+    ensures { λ _. ⌜ now (out .exit) ≡ frontAfter (told a) (now (out .entry)) ⌝ }
 {
     let h = a.header;
     let flags = h.flags;
@@ -146,7 +147,7 @@ fn give_arrays(jpeg: [u32; 3], passes: Passes, out: &mut [u64])
 
 // The record's words, all 51.
 fn give_words(a: HeaderAnswer, out: &mut [u64])
-    ensures { λ _. ⌜ now (out .exit) ≡ wordsAfter a (now (out .entry)) ⌝ }
+    ensures { λ _. ⌜ now (out .exit) ≡ wordsAfter (told a) (now (out .entry)) ⌝ }
 {
     let h = a.header;
     let jpeg = h.jpeg_upsampling;
@@ -164,15 +165,14 @@ fn give_floats(f: RestorationFilter, out: &mut [f32])
     let gab = f.gab;
     let epf = f.epf;
     let params = epf.params;
-    let sigma = params.sigma;
     let weights = gab.weights;
     let sharp = params.sharp_lut;
     let scale = params.channel_scale;
     let last = [
-        sigma.quant_mul,
-        sigma.pass0_sigma_scale,
-        sigma.pass2_sigma_scale,
-        sigma.border_sad_mul,
+        params.quant_mul,
+        params.pass0_sigma_scale,
+        params.pass2_sigma_scale,
+        params.border_sad_mul,
         params.sigma_for_modular,
     ];
     fill::fill_f32(out, 0, &weights);
@@ -190,7 +190,7 @@ pub fn has_room(words: usize, signed: usize, floats: usize) -> bool
 
 // The two signed numbers: x0, y0.
 fn give_signed(h: FrameHeader, out: &mut [i32])
-    ensures { λ _. ⌜ now (out .exit) ≡ signedAfter h (now (out .entry)) ⌝ }
+    ensures { λ _. ⌜ now (out .exit) ≡ signedAfter (numbersOf h) (now (out .entry)) ⌝ }
 {
     fill::put_i32(out, 0, h.x0);
     fill::put_i32(out, 1, h.y0);
@@ -210,7 +210,7 @@ pub fn give_record(
     signed: &mut [i32],
     floats: &mut [f32],
 ) -> u64
-    ensures { λ r. ⌜ HandedOut a r (now (words .entry)) (now (words .exit)) (now (signed .entry)) (now (signed .exit)) (now (floats .entry)) (now (floats .exit)) ⌝ }
+    ensures { λ r. ⌜ HandedOut (told a) r (now (words .entry)) (now (words .exit)) (now (signed .entry)) (now (signed .exit)) (now (floats .entry)) (now (floats .exit)) ⌝ }
 {
     let refusal = a.refusal;
     if refusal.number != 0 {

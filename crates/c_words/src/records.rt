@@ -14,6 +14,7 @@ use sections::SectionPlace;
 use sections::TocGroupKind;
 ghost use mathlib.Core.Path.{_≡_};
 ghost use Rattle.c_words.specs.Answers.{Given};
+ghost use Rattle.sections.specs.Kinds.{kindTold};
 ghost use Rattle.c_words.specs.Records.{frame, rect, kindNamed, sectionOfNumbers, numberAnswer, placedAnswer, touchAnswer, gridAnswer, sectionAnswer, sentAnswer, kindAnswer, placeAnswer};
 
 // A frame out of its six numbers.
@@ -114,7 +115,7 @@ pub fn give_sent(a: SentAnswer, out: &mut [u64]) -> u64
 
 // A kind, as three words: its number, pass and group (or LF group).
 pub fn give_kind(a: KindAnswer, out: &mut [u64]) -> u64
-    ensures { λ r. ⌜ Given (kindAnswer a) (now (out .entry)) r (now (out .exit)) ⌝ }
+    ensures { λ r. ⌜ Given (kindAnswer (kindTold a)) (now (out .entry)) r (now (out .exit)) ⌝ }
 {
     let kind = a.kind;
     let k = sections::kind_numbers(kind);

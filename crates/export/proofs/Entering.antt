@@ -9,7 +9,7 @@ use lib.ListN.{length}
 use Rattle.bits.specs.declared.Refusal.{Refusal}
 use Rattle.header.specs.declared.Facts.{Facts}
 use Rattle.header.specs.declared.entry.HeaderAnswer.{HeaderAnswer}
-use Rattle.header.specs.Entry.{judged, stands, answered, refusedHeader, Headed}
+use Rattle.header.specs.Entry.{judged, stands, told, answered, refusedHeader, Headed}
 use Rattle.c_words.specs.Status.{statusOf}
 use Rattle.c_words.specs.Heading.{HandedOut, recordRoom, noRecord, Buffers, judgedAll, HeadRead}
 use Rattle.c_words.proofs.Recording.{refused-by, not-none}
@@ -31,7 +31,7 @@ module _ (f : Facts) (s : List ℕ) (before : Buffers) (room : Bool)
 
   pub head-read : room ≡ true → (a : HeaderAnswer) (name' upsampling' blending' words' : List ℕ) (signs' : List ℤ) (reals' : List Float) (word : ℕ)
       → Headed f s a (before .name) name' (before .upsampling) upsampling' (before .blending) blending'
-      → HandedOut a word (before .numbers) words' (before .signs) signs' (before .reals) reals'
+      → HandedOut (told a) word (before .numbers) words' (before .signs) signs' (before .reals) reals'
       → HeadRead f s word before (record { name = name'; upsampling = upsampling'; blending = blending'; numbers = words'; signs = signs'; reals = reals' })
   unfolding judgedAll
   head-read h a name' upsampling' blending' words' signs' reals' word headed handed =

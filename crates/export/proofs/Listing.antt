@@ -8,6 +8,7 @@ use Rattle.bits.specs.declared.Refusal.{Refusal}
 use Rattle.grid.specs.declared.Frame.{Frame}
 use Rattle.toc.specs.declared.TocRead.{TocRead}
 use Rattle.toc.specs.Reading.{Tables, Reading, Done, refusedRead, written}
+use Rattle.toc.proofs.Accepted.{Telling, same-answer}
 use Rattle.c_words.specs.Status.{statusOf}
 use Rattle.c_words.specs.Contents.{tocStatus, tocAfter, noRoom, roomedReading, Listed}
 
@@ -28,16 +29,17 @@ module _ (s : List ℕ) (f g : Frame) (ef : f ≡ g) (ask : Frame → Reading) (
       }
 
   -- the entry of the crate below, and its answer as words
-  pub listed : 3 ≤ length out → (a : TocRead) (o z p i out' : List ℕ) (word : ℕ) → Done (ask f) t a o z p i → (word ≡ tocStatus a) × (out' ≡ tocAfter a out)
+  pub listed : 3 ≤ length out → (a : TocRead) (o z p i out' : List ℕ) (word : ℕ) → Telling (ask f .answer) → Done (ask f) t a o z p i → (word ≡ tocStatus a) × (out' ≡ tocAfter a out)
       → Listed (roomedReading s g out (ask g)) t word o z p i out out'
   unfolding roomedReading
-  listed h a o z p i out' word done told =
+  listed h a o z p i out' word telling done told =
       let room = le-ltb (length out) 3 h in
+      let is : a ≡ ask f .answer = same-answer a (ask f .answer) telling (done .answer) in
       record {
-        status = told .0 ∙ rw (room, ← ef, done .answer);
+        status = told .0 ∙ rw (room, ← ef, is);
         offsets = done .offsets ∙ rw (room, ef);
         sizes = done .sizes ∙ rw (room, ef);
         order = done .order ∙ rw (room, ef);
         inverse = done .inverse ∙ rw (room, ef);
-        words = told .1 ∙ rw (room, ← ef, done .answer);
+        words = told .1 ∙ rw (room, ← ef, is);
       }

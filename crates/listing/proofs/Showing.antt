@@ -16,7 +16,7 @@ use Rattle.grid.specs.Groups.{told, rectFor}
 use Rattle.order.specs.Sums.{sumTo}
 use Rattle.sections.specs.declared.KindNumbers.{KindNumbers}
 use Rattle.sections.specs.declared.KindAnswer.{KindAnswer}
-use Rattle.sections.specs.Kinds.{numbersOf, kindOf}
+use Rattle.sections.specs.Kinds.{numbersOf, kindOf, kindTold, KindTold}
 use Rattle.listing.specs.declared.rows.Row.{Row}
 use Rattle.listing.specs.Listed.{rectBy, rowAt}
 
@@ -44,7 +44,7 @@ module _ (g : Grid) (k : KindNumbers) where
 
 -- a section's line
 pub row-is : (f : Frame) (offsets sizes order : List ℕ) (i : ℕ) (a : KindAnswer) (k : KindNumbers) (r : Rect) (sent offset size : ℕ)
-    → a ≡ kindOf f (record { 0 = i }) → k ≡ numbersOf (a .kind) → r ≡ rectBy (gridOf f) k → sent ≡ getD order i 0 → offset ≡ getD offsets i 0 → size ≡ getD sizes i 0
+    → kindTold a ≡ kindOf f (record { 0 = i }) → k ≡ numbersOf (a .kind) → r ≡ rectBy (gridOf f) k → sent ≡ getD order i 0 → offset ≡ getD offsets i 0 → size ≡ getD sizes i 0
     → _≡_ {A = Row}
     (record {
       section = i;
@@ -58,7 +58,9 @@ pub row-is : (f : Frame) (offsets sizes order : List ℕ) (i : ℕ) (a : KindAns
     })
     (rowAt f offsets sizes order i)
 unfolding rowAt
-row-is f offsets sizes order i a k r sent offset size ea ek er es eo ez = rw (← ea, ← ek, ← er, ← es, ← eo, ← ez)
+row-is f offsets sizes order i a k r sent offset size ea ek er es eo ez =
+    let n : k ≡ kindOf f (record { 0 = i }) .numbers = ek ∙ ap (λ (t : KindTold). t .numbers) ea in
+    rw (er, n, es, eo, ez)
 
 -- ---- the sum of the sizes
 

@@ -30,7 +30,7 @@ rectBy g k =
     (record { left = 0; top = 0; width = 0; height = 0 })))
 
 abbrev pub kindNumbers : Frame → ℕ → KindNumbers
-kindNumbers f i = numbersOf (kindOf f (record { 0 = i }) .kind)
+kindNumbers f i = kindOf f (record { 0 = i }) .numbers
 
 -- what the listing shows of section i: its kind, its words of the three tables, and its rectangle
 unfoldable pub rowAt : Frame → List ℕ → List ℕ → List ℕ → ℕ → Row

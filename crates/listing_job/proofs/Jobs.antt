@@ -20,12 +20,13 @@ use Rattle.order.proofs.Reach.{order-length}
 use Rattle.order.proofs.Checked.{checked-good}
 use Rattle.header.specs.declared.Facts.{Facts}
 use Rattle.header.specs.declared.entry.HeaderAnswer.{HeaderAnswer}
-use Rattle.header.specs.Record.{frameOf}
+use Rattle.header.specs.Record.{numbersOf, frameOf}
+use Rattle.header.specs.Entry.{HeaderTold, told}
 use Rattle.toc.specs.declared.Toc.{Toc}
 use Rattle.toc.specs.declared.TocRead.{TocRead}
 use Rattle.toc.specs.declared.TocRead.the-variants.{Table, OrderNeeded, Refused}
 use Rattle.toc.specs.Reading.{Tables, firstReading, after, tablesOf, Done}
-use Rattle.toc.proofs.Accepted.{Accepted, first-accepted}
+use Rattle.toc.proofs.Accepted.{Accepted, first-accepted, same-answer, first-telling}
 use Rattle.listing.specs.declared.TextAnswer.{TextAnswer}
 use Rattle.listing.specs.Put.{Texted, fitted}
 use Rattle.listing.specs.Text.{refusedText, orderText}
@@ -58,7 +59,7 @@ take-filled new table n e h = rw (take-all (length table) new (omega arith)) (ta
 
 module _ (s : List ℕ) (f : Frame) (place : ℕ) (t : TocRead) (o z p i : List ℕ) (d : Done (firstReading s f place blank) blank t o z p i) where
   answer-is : (a : TocRead) → t ≡ a → firstReading s f place blank .answer ≡ a
-  answer-is a e = sym (d .answer) ∙ e
+  answer-is a e = sym (same-answer t _ (first-telling s f place blank) (d .answer)) ∙ e
 
   text-is : (a : TocRead) → t ≡ a → sectionsText s f place ≡ readText f (after (firstReading s f place blank) blank) (firstReading s f place blank .order) a
   unfolding readingText
@@ -117,13 +118,13 @@ module _ (s : List ℕ) (f : Frame) (place : ℕ) (t : TocRead) (o z p i : List 
 
 -- ---- the header
 
-module _ {out' : List ℕ} (s : List ℕ) (facts : Facts) (h : HeaderAnswer) (e : h ≡ headed s facts) (out : List ℕ) (a : TextAnswer) where
+module _ {out' : List ℕ} (s : List ℕ) (facts : Facts) (h : HeaderAnswer) (e : told h ≡ headed s facts) (out : List ℕ) (a : TextAnswer) where
   pub header-refused : (h .refusal .number ≡ 0 → ⊥) → Texted (fitted (refusedText (h .refusal)) out) (refusedText (h .refusal)) out a out'
       → Texted (fitted (headerText s facts) out) (headerText s facts) out a out'
   unfolding headerText
   header-refused n w = line-is (refusedText (h .refusal)) (headerText s facts) out a (sym (rw (← e, ne-eqb (h .refusal .number) 0 n))) w
 
-  pub header-read : (f : Frame) → f ≡ frameOf (h .header) → h .refusal .number ≡ 0 → Texted (fitted (sectionsText s f (h .end)) out) (sectionsText s f (h .end)) out a out'
+  pub header-read : (f : Frame) → f ≡ frameOf (numbersOf (h .header)) → h .refusal .number ≡ 0 → Texted (fitted (sectionsText s f (h .end)) out) (sectionsText s f (h .end)) out a out'
       → Texted (fitted (headerText s facts) out) (headerText s facts) out a out'
   unfolding headerText
   header-read f ef z w =

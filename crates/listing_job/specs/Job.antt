@@ -6,8 +6,7 @@ use lib.ListN.{length, take, replicate}
 use Rattle.bits.specs.Refusals.{pick, refusal}
 use Rattle.grid.specs.declared.Frame.{Frame}
 use Rattle.header.specs.declared.Facts.{Facts}
-use Rattle.header.specs.declared.entry.HeaderAnswer.{HeaderAnswer}
-use Rattle.header.specs.Entry.{judged, stands, answered}
+use Rattle.header.specs.Entry.{judged, stands, HeaderTold, answered}
 use Rattle.header.specs.Record.{frameOf}
 use Rattle.toc.specs.declared.TocRead.{TocRead}
 use Rattle.toc.specs.declared.TocRead.the-variants.{Table, OrderNeeded, Refused}
@@ -37,7 +36,7 @@ abbrev pub sectionsText : List ℕ → Frame → ℕ → List ℕ
 sectionsText s f place = readingText f (firstReading s f place blank)
 
 -- the header, with a name buffer of 1,071 bytes and room for 256 extra channels
-abbrev pub headed : List ℕ → Facts → HeaderAnswer
+abbrev pub headed : List ℕ → Facts → HeaderTold
 headed s facts = answered facts (judged (length s) facts 1071 256 1024) (stands facts s)
 
 unfoldable pub headerText : List ℕ → Facts → List ℕ

@@ -5,7 +5,7 @@ use Rattle.c_words.proofs.heads.back_words.Statement.{statement}
 use Rattle.c_words.proofs.heads.back_words.Tie as tie
 
 returns : tie.Need-returns
-returns c = back-is (c .before .before .before .before .before .before .before .before .before .before .before .before .before .args .h) _ _ _ _ _ _ _ _ (c .before .before .before .before .before .before .before .bit .ensures) (c .before .before .before .before .before .before .blend-mode-number .ensures) (c .before .before .before .before .before .bit2 .ensures) (c .before .before .before .before .bit3 .ensures) (c .before .before .before .bit4 .ensures) (c .before .before .bit5 .ensures) (c .before .bit6 .ensures) (c .bit7 .ensures)
+returns c = back-is (c .before .before .before .before .before .before .before .before .before .before .before .before .args .h) _ _ _ _ _ _ _ _ (c .before .before .before .before .before .before .before .bit .ensures) (c .before .before .before .before .before .before .blend-mode-number .ensures) (c .before .before .before .before .before .bit2 .ensures) (c .before .before .before .before .bit3 .ensures) (c .before .before .before .bit4 .ensures) (c .before .before .bit5 .ensures) (c .before .bit6 .ensures) (c .bit7 .ensures)
 
 pub back-words-spec : {M : Type 1} → statement M
 back-words-spec =
