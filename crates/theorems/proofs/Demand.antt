@@ -26,14 +26,13 @@ use Rattle.toc.specs.declared.Toc.{Toc}
 use Rattle.toc.specs.declared.TocRead.the-variants.{Table}
 use Rattle.sections.specs.declared.TocGroupKind.{TocGroupKind}
 use Rattle.sections.specs.declared.TocGroupKind.the-variants.{All, GroupPass}
-use Rattle.sections.specs.declared.KindAnswer.{KindAnswer}
-use Rattle.sections.specs.Kinds.{numbersOf, sectionNumber, kindOf}
+use Rattle.sections.specs.Kinds.{numbersOf, sectionNumber, KindTold, kindOf}
 use Rattle.toc.specs.Sizes.{sentBefore, offsetsBy, sizesBy}
 use Rattle.toc.specs.Reading.{Tables, tables, Reading, firstReading, secondReading, Done}
 use Rattle.sections.specs.Lookups.{sampleKind, sectionOfSample}
 use Rattle.sections.proofs.OfKinds.{number-below, of-kind-yes}
 use Rattle.sections.proofs.Asking.{Sample, sample-all, sample-group, sample-has}
-use Rattle.toc.proofs.Accepted.{Accepted, first-accepted}
+use Rattle.toc.proofs.Accepted.{Accepted, first-accepted, same-answer, first-telling, second-telling}
 use Rattle.theorems.proofs.Orders.{order-once, order-sum, inverse-back}
 use Rattle.theorems.proofs.Rectangles.{In, Exactly, groups-exactly}
 use Rattle.theorems.proofs.KindsBack.{kind-of-section-of}
@@ -90,10 +89,10 @@ pub record FoundWhereSent (f : Frame) (toc : Toc) (sent : List ℕ) (t : Tables)
   pub answered : sectionOfSample f x y pass .refusal ≡ none
   pub section : foundFor f x y pass < toc .count
   -- where there is one section alone, its kind is All
-  pub all : toc .count ≡ 1 → _≡_ {A = KindAnswer} (kindOf f (sectionOfSample f x y pass .section)) (record { kind = All; refusal = none })
+  pub all : toc .count ≡ 1 → _≡_ {A = KindTold} (kindOf f (sectionOfSample f x y pass .section)) (record { numbers = numbersOf All; refusal = none })
   -- else its kind is GroupPass, of the pass and of the group whose rectangle holds the sample
   pub group : (toc .count ≡ 1 → ⊥) → (i : ℕ) → In (rectOf (colorWidth f) (colorHeight f) (groupSide f) i) x y
-      → _≡_ {A = KindAnswer} (kindOf f (sectionOfSample f x y pass .section)) (record { kind = GroupPass pass i; refusal = none })
+      → _≡_ {A = KindTold} (kindOf f (sectionOfSample f x y pass .section)) (record { numbers = numbersOf (GroupPass pass i); refusal = none })
   -- its offset, by the sizes in sent order: those of the sent numbers below its own
   pub starts : getD (t .offsets) (foundFor f x y pass) 0 ≡ toc .bookmark + sentBefore sent (getD (t .order) (foundFor f x y pass) 0)
   -- its offset, by the sizes of the sections that are sent before it
@@ -144,8 +143,8 @@ written-words s f t toc q a o z p i d = record {
 
 -- ---- the proof, for any tables with these words
 
-abbrev kinded : TocGroupKind → KindAnswer
-kinded k = record { kind = k; refusal = none }
+abbrev kinded : TocGroupKind → KindTold
+kinded k = record { numbers = numbersOf k; refusal = none }
 
 abbrev sizeSent : Reading → ℕ → ℕ
 sizeSent q k = getD (q .sizes) k 0
@@ -291,7 +290,7 @@ module _ (s : List ℕ) (f : Frame) (place : ℕ) (t : Tables) (toc : Toc) where
       → Demand f toc (identity (toc .count)) (firstReading s f place t .sizes) (tables o z p i)
   first-written o z p i d =
       let q : Reading = firstReading s f place t in
-      let ok = first-accepted s f place t toc (sym (d .answer)) in
+      let ok = first-accepted s f place t toc (sym (same-answer (Table toc) (q .answer) (first-telling s f place t) (d .answer))) in
       due-order f toc (q .order) _ (q .sizes) _ (ok .1) (demand s f t toc q (ok .0) (tables o z p i) (written-words s f t toc q (ok .0) o z p i d))
 
 -- the second entry, where the lent order is due
@@ -307,5 +306,5 @@ module _ (s : List ℕ) (f : Frame) (place : ℕ) (order : List ℕ) (t : Tables
       → Demand f toc order (secondReading s f place order t .sizes) (tables o z p i)
   second-written o z p i d =
       let q : Reading = secondReading s f place order t in
-      let ok = second-accepted s f place order t toc (sym (d .answer)) in
+      let ok = second-accepted s f place order t toc (sym (same-answer (Table toc) (q .answer) (second-telling s f place t order) (d .answer))) in
       due-order f toc (q .order) _ (q .sizes) _ (ok .1) (demand s f t toc q (ok .0) (tables o z p i) (written-words s f t toc q (ok .0) o z p i d))

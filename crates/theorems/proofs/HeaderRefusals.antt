@@ -17,14 +17,13 @@ use Rattle.header.specs.declared.Facts.{Facts}
 use Rattle.header.specs.declared.opening.Opening.{Opening}
 use Rattle.header.specs.declared.shape.Placement.{Placement}
 use Rattle.header.specs.declared.blending.Decider.{Decider}
-use Rattle.header.specs.declared.entry.HeaderAnswer.{HeaderAnswer}
 use Rattle.header.specs.Arrays.{element, array}
 use Rattle.header.specs.Opening.{opening}
 use Rattle.header.specs.Shape.{passes, scales, placement}
 use Rattle.header.specs.Blending.{blending}
 use Rattle.header.specs.Closing.{closing}
 use Rattle.header.specs.Header.{front, back, header}
-use Rattle.header.specs.Entry.{badFacts, noRoom, judged, stands, refusalOf, refusedHeader, answered}
+use Rattle.header.specs.Entry.{badFacts, noRoom, judged, stands, refusalOf, HeaderTold, refusedHeader, answered}
 
 -- ---- the filters' tables
 
@@ -155,4 +154,4 @@ unfolding answered refusedHeader
 answered-known f s before k =
     let h = stands f s in
     let first : Known (refusalOf before h) = of-both Known (eqb (before .number) 0) (h .next .fault) before (read-known (header f) (header-numbered f) s 0 (omega arith)) k in
-    of-both (λ (a : HeaderAnswer). Known (a .refusal)) (eqb (refusalOf before h .number) 0) _ (refusedHeader (refusalOf before h)) (omega arith, omega arith) first
+    of-both (λ (a : HeaderTold). Known (a .refusal)) (eqb (refusalOf before h .number) 0) _ (refusedHeader (refusalOf before h)) (omega arith, omega arith) first

@@ -7,7 +7,7 @@ use mathlib.Core.Bool.{Bool, true, false, false≢true}
 use lib.Dec.{eqb, leb, ltb}
 use lib.Arith.{digits-div, digits-mod}
 use borrow.Author.Tests.{eq-eqb, ne-eqb, eqb-true, eqb-false, leb-true, leb-false, lt-ltb, ltb-true}
-use Rattle.bits.specs.Refusals.{refusal, none}
+use Rattle.bits.specs.Refusals.{pick, refusal, none}
 use Rattle.grid.specs.declared.Frame.{Frame}
 use Rattle.grid.specs.declared.Grid.{Grid}
 use Rattle.grid.specs.Measured.{gridOf}
@@ -20,8 +20,7 @@ use Rattle.order.proofs.Entries.{split, and-both}
 use Rattle.sections.specs.declared.TocGroupKind.{TocGroupKind}
 use Rattle.sections.specs.declared.TocGroupKind.the-variants.{All, LfGlobal, LfGroup, HfGlobal, GroupPass}
 use Rattle.sections.specs.declared.KindNumbers.{KindNumbers}
-use Rattle.sections.specs.declared.KindAnswer.{KindAnswer}
-use Rattle.sections.specs.Kinds.{numbersOf, hasKind, sectionNumber, kindAt, sectionAnswer, sectionOfKind, kindOf}
+use Rattle.sections.specs.Kinds.{numbersOf, hasKind, sectionNumber, kindAt, sectionAnswer, sectionOfKind, KindTold, kindOf}
 use Rattle.sections.proofs.Counts.{Counts, counts}
 use Rattle.sections.proofs.OfKinds.{at-one, at-first, at-lf, at-hf, at-pass, has-one, has-lf, has-pass, has-global, number-lf, number-hf, number-pass, number-first, number-below, of-kind-yes, kind-yes}
 
@@ -124,21 +123,37 @@ module _ (f : Frame) (g : Grid) (n : Counts f g) where
       rw (← number-pass g (numbersOf (GroupPass p j)) (eqb-false 4 2 refl) (eqb-false 4 3 refl) refl)
       (sym (at-pass g i h (λ q. omega arith) (omega arith) (λ q. omega arith)) ∙ ap (λ (x : ℕ). GroupPass x ((i - g .«lf_groups» - 1 - 1) % g .groups)) pass ∙ ap (λ (x : ℕ). GroupPass p x) group))
 
+-- a kind is told whole by its numbers
+abbrev kindBy : KindNumbers → TocGroupKind
+kindBy k =
+    pick (eqb (k .kind) 1) LfGlobal
+    (pick (eqb (k .kind) 2) (LfGroup (k .«group_idx»)) (pick (eqb (k .kind) 3) HfGlobal (pick (eqb (k .kind) 4) (GroupPass (k .«pass_idx») (k .«group_idx»)) All)))
+
+kind-by : (k : TocGroupKind) → kindBy (numbersOf k) ≡ k
+kind-by All = refl
+kind-by LfGlobal = refl
+kind-by (LfGroup i) = refl
+kind-by HfGlobal = refl
+kind-by (GroupPass p i) = refl
+
+pub same-kind : (a b : TocGroupKind) → numbersOf a ≡ numbersOf b → a ≡ b
+same-kind a b e = sym (kind-by a) ∙ ap kindBy e ∙ kind-by b
+
 -- a section's kind names that section
-pub section-of-kind-of : (f : Frame) (s : SectionNumber) → kindOf f s .refusal .number ≡ 0
-    → _≡_ {A = SectionAnswer} (sectionOfKind f (kindOf f s .kind)) (record { section = s; refusal = none })
+pub section-of-kind-of : (f : Frame) (s : SectionNumber) (kind : TocGroupKind) → numbersOf kind ≡ kindOf f s .numbers → kindOf f s .refusal .number ≡ 0
+    → _≡_ {A = SectionAnswer} (sectionOfKind f kind) (record { section = s; refusal = none })
 unfolding kindOf
-section-of-kind-of f s z =
+section-of-kind-of f s kind is z =
     let g : Grid = gridOf f in
     let ok = judged g (ltb (s .0) (g .sections)) z in
     let st = kind-stands f g (counts f g refl (ok .0)) (s .0) (ltb-true (s .0) (g .sections) (ok .1)) in
-    let e : kindOf f s .kind ≡ kindAt g (s .0) = rw (eq-eqb (judge g (ltb (s .0) (g .sections)) .number) 0 z) in
-    rw e
+    let n : numbersOf kind ≡ numbersOf (kindAt g (s .0)) = rw (eq-eqb (judge g (ltb (s .0) (g .sections)) .number) 0 z) at is in
+    rw (same-kind kind (kindAt g (s .0)) n)
     (sym (of-kind-yes f g refl none (kindAt g (s .0)) (numbersOf (kindAt g (s .0))) refl true (sym (st .has)) (judge-known g true none (ok .0) refl refl) (s .0) refl (sym (st .number))))
 
 -- a kind's section has that kind
 pub kind-of-section-of : (f : Frame) (kind : TocGroupKind) → sectionOfKind f kind .refusal .number ≡ 0
-    → _≡_ {A = KindAnswer} (kindOf f (sectionOfKind f kind .section)) (record { kind = kind; refusal = none })
+    → _≡_ {A = KindTold} (kindOf f (sectionOfKind f kind .section)) (record { numbers = numbersOf kind; refusal = none })
 unfolding sectionOfKind sectionAnswer
 kind-of-section-of f kind z =
     let g : Grid = gridOf f in

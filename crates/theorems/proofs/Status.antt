@@ -15,8 +15,7 @@ use Rattle.bits.proofs.Numbered.{Known, of-both}
 use Rattle.grid.specs.declared.Frame.{Frame}
 use Rattle.grid.specs.Measured.{gridOf}
 use Rattle.header.specs.declared.Facts.{Facts}
-use Rattle.header.specs.declared.entry.HeaderAnswer.{HeaderAnswer}
-use Rattle.header.specs.Entry.{badFacts, judged, stands, answered}
+use Rattle.header.specs.Entry.{badFacts, judged, stands, HeaderTold, answered}
 use Rattle.toc.specs.declared.TocRead.{TocRead}
 use Rattle.toc.specs.declared.TocRead.the-variants.{OrderNeeded, Refused}
 use Rattle.toc.specs.Reading.{Tables, Reading, refusedRead, firstReading, secondReading}
@@ -94,7 +93,7 @@ judged-all-known s f b =
     (of-both Known (badFacts f) (refusal 1 0) (refusal 3 0) (omega arith, omega arith) (omega arith, omega arith)))
 
 module _ (f : Facts) (s : List ℕ) (word : ℕ) (before after : Buffers) (h : HeadRead f s word before after) where
-  abbrev said : HeaderAnswer
+  abbrev said : HeaderTold
   said = answered f (judgedAll s f before) (stands f s)
 
   known : Known (said .refusal)

@@ -49,8 +49,8 @@ second-accepted s f place lent t toc e =
     (lent-order s f place t g refl (roomy (g .sections) t) refl r refl z lent bad refl b) place (roomy (g .sections) t) ok
     (roomed s f place t g refl (roomy (g .sections) t) refl r refl z) (place-within s place (ok .short) (ok .inside)) in
     (a, ap (λ (x : Reading). x .order) is))
-    (λ b'. absurd (not-refused bad toc _ (second-bad s f place t g refl (roomy (g .sections) t) refl r refl z lent bad refl (eqb-false (bad .number) 0 b') .answer) e)))
-    (λ z'. absurd (not-refused r toc _ (second-refused s f place t g refl (roomy (g .sections) t) refl r refl lent (eqb-false (r .number) 0 z') .answer) e))
+    (λ b'. absurd (not-refused bad toc _ (eqb-false (bad .number) 0 b') (second-bad s f place t g refl (roomy (g .sections) t) refl r refl z lent bad refl (eqb-false (bad .number) 0 b') .answer) e)))
+    (λ z'. absurd (not-refused r toc _ (eqb-false (r .number) 0 z') (second-refused s f place t g refl (roomy (g .sections) t) refl r refl lent (eqb-false (r .number) 0 z') .answer) e))
 
 -- ---- what stands at each section
 
