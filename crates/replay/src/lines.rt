@@ -1,4 +1,5 @@
-// Numbers on standard output.
+// Numbers on standard output. These functions answer nothing and are lent nothing to change, so they have nothing to promise; what a program writes is
+// compared with its file `stdout`.
 use bits::Refusal;
 
 // A number and a tab.

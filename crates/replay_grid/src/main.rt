@@ -55,20 +55,22 @@ fn number(n: Number) {
 
 fn measured(f: Frame) {
     let g = grid::measure(f);
-    replay::cells(&[
-        g.width,
-        g.height,
-        g.side,
-        g.lf_side,
-        g.columns,
-        g.rows,
-        g.lf_columns,
-        g.lf_rows,
-        g.groups,
-        g.lf_groups,
-        g.sections,
-        g.refusal.number,
-    ]);
+    replay::cells(
+        &[
+            g.width,
+            g.height,
+            g.side,
+            g.lf_side,
+            g.columns,
+            g.rows,
+            g.lf_columns,
+            g.lf_rows,
+            g.groups,
+            g.lf_groups,
+            g.sections,
+            g.refusal.number,
+        ],
+    );
     replay::show(g.refusal.place);
 }
 
@@ -88,16 +90,18 @@ fn counts(f: Frame, upsampling: u32) {
 
 fn group(p: Placed, size: Size, touches: Touches) {
     let b = p.rect;
-    replay::cells(&[
-        b.left,
-        b.top,
-        b.width,
-        b.height,
-        p.refusal.number,
-        size.width,
-        size.height,
-        size.refusal.number,
-        touches.value as u32,
-        touches.refusal.number,
-    ]);
+    replay::cells(
+        &[
+            b.left,
+            b.top,
+            b.width,
+            b.height,
+            p.refusal.number,
+            size.width,
+            size.height,
+            size.refusal.number,
+            touches.value as u32,
+            touches.refusal.number,
+        ],
+    );
 }
