@@ -1,5 +1,6 @@
 // Numbers on standard output. These functions answer nothing and are lent nothing to change, so they have nothing to promise; what a program writes is
 // compared with its file `stdout`.
+use crate::sums::wide;
 use bits::Refusal;
 
 // A number and a tab.
@@ -15,10 +16,6 @@ pub fn cells(xs: &[u32]) {
         show(wide(xs[i]));
         i += 1;
     }
-}
-
-fn wide(x: u32) -> u64 {
-    x as u64
 }
 
 // A refusal's number and its place.

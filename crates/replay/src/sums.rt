@@ -23,7 +23,7 @@ fn wide_byte(x: u8) -> u64
     x as u64
 }
 
-fn wide(x: u32) -> u64
+pub fn wide(x: u32) -> u64
     ensures { λ r. ⌜ r ≡ x ⌝ }
 {
     x as u64

@@ -27,22 +27,22 @@ pub fn bytes(byte: u8) -> [u8; 270000]
 }
 
 // How much is lent of a slice: as much as is asked for, as far as it goes.
-pub fn room_bytes(xs: &[u8], n: u32) -> usize
-    ensures { λ r. ⌜ (r ≡ min n (length (now (xs .entry)))) × Counts r (now (xs .entry)) ⌝ }
+pub fn room_bytes(bytes: &[u8], n: u32) -> usize
+    ensures { λ r. ⌜ (r ≡ min n (length (now (bytes .entry)))) × Counts r (now (bytes .entry)) ⌝ }
 {
-    fill::least(n as usize, xs.len())
+    fill::least(n as usize, bytes.len())
 }
 
-pub fn room_words(xs: &[u32], n: u32) -> usize
-    ensures { λ r. ⌜ (r ≡ min n (length (now (xs .entry)))) × Counts r (now (xs .entry)) ⌝ }
+pub fn room_words(words: &[u32], n: u32) -> usize
+    ensures { λ r. ⌜ (r ≡ min n (length (now (words .entry)))) × Counts r (now (words .entry)) ⌝ }
 {
-    fill::least(n as usize, xs.len())
+    fill::least(n as usize, words.len())
 }
 
-pub fn room_longs(xs: &[u64], n: u32) -> usize
-    ensures { λ r. ⌜ (r ≡ min n (length (now (xs .entry)))) × Counts r (now (xs .entry)) ⌝ }
+pub fn room_longs(longs: &[u64], n: u32) -> usize
+    ensures { λ r. ⌜ (r ≡ min n (length (now (longs .entry)))) × Counts r (now (longs .entry)) ⌝ }
 {
-    fill::least(n as usize, xs.len())
+    fill::least(n as usize, longs.len())
 }
 
 // The numbers of a record from an index on.
