@@ -18,11 +18,11 @@ pub record Summing {A : Type 0} (f : A → ℕ) (big : Bool) (sum : ℕ) (xs : L
   pub left : summedBy f big all (drop i xs) ≡ summedBy f big sum xs
   pub within : i ≤ length xs
 
-module _ {A : Type 0} (f : A → ℕ) (d : A) (big : Bool) (sum : ℕ) (xs : List A) where
+module _ {A : Type 0} (f : A → ℕ) (d : A) {big : Bool} {sum : ℕ} {xs : List A} where
   pub summing-none : Summing f big sum xs sum 0
   summing-none = record { left = refl; within = omega arith }
 
-  module _ (all i : ℕ) (so-far : Summing f big sum xs all i) where
+  module _ {all i : ℕ} (so-far : Summing f big sum xs all i) where
     pub summing-more : i < length xs → (next : ℕ) → next ≡ mixed big all (f (getD xs i d)) → Summing f big sum xs next (i + 1)
     unfolding summedBy
     summing-more h next e = record { left = rw (e, add-one) (rw (drop-cons xs i d h) at (so-far .left)); within = omega arith }
@@ -32,15 +32,15 @@ module _ {A : Type 0} (f : A → ℕ) (d : A) (big : Bool) (sum : ℕ) (xs : Lis
     summing-all h = rw (drop-of-length-le xs h) at (so-far .left)
 
 -- i values of a rule are put
-module _ (f : ℕ → ℕ) (n : ℕ) (before : List ℕ) where
-  abbrev pub Placing : List ℕ → ℕ → Type 0
-  Placing out i = Filling before 0 (listed f 0 n) out i (listed f i (n - i))
+abbrev pub Placing : (ℕ → ℕ) → ℕ → List ℕ → List ℕ → ℕ → Type 0
+Placing f n before out i = Filling before 0 (listed f 0 n) out i (listed f i (n - i))
 
-  pub placing-none : Placing before 0
+module _ (f : ℕ → ℕ) (n : ℕ) {before : List ℕ} where
+  pub placing-none : Placing f n before before 0
   placing-none = rw sub-zero (filling-none before 0 (listed f 0 n))
 
-  module _ (out : List ℕ) (i : ℕ) (so-far : Placing out i) where
-    pub placing-more : i < n → (v : ℕ) → v ≡ f i → (after : List ℕ) → after ≡ set out i v → Placing after (i + 1)
+  module _ {out : List ℕ} {i : ℕ} (so-far : Placing f n before out i) where
+    pub placing-more : i < n → (v : ℕ) → v ≡ f i → (after : List ℕ) → after ≡ set out i v → Placing f n before after (i + 1)
     unfolding listed
     placing-more h v ev after e =
         let one : n - i ≡ suc (n - (i + 1)) = omega arith in

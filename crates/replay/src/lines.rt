@@ -1,5 +1,5 @@
-// Numbers on standard output. These functions answer nothing and are lent nothing to change, so they have nothing to promise; what a program writes is
-// compared with its file `stdout`.
+// Numbers on standard output. These functions answer nothing and are lent nothing to change, so they have nothing to promise; what a
+// program writes is compared with its file `stdout`.
 use crate::sums::wide;
 use bits::Refusal;
 

@@ -1,3 +1,4 @@
+-- `four`: one number after the other.
 use borrow.Author.Needs.{needs}
 use Rattle.replay.specs.Words.{fourAt}
 use Rattle.replay.proofs.words.four.Statement.{statement}

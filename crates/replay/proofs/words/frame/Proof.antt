@@ -1,3 +1,4 @@
+-- `frame`: one number after the other.
 use borrow.Author.Needs.{needs}
 use Rattle.replay.specs.Words.{frameAt}
 use Rattle.replay.proofs.words.frame.Statement.{statement}
@@ -5,7 +6,16 @@ use Rattle.replay.proofs.words.frame.Tie as tie
 
 returns : tie.Need-returns
 unfolding frameAt
-returns c = rw (c .before .before .before .before .before .number .ensures, c .before .before .before .before .number2 .ensures, c .before .before .before .number3 .ensures, c .before .before .number4 .ensures, c .before .number5 .ensures, c .number6 .ensures)
+returns c =
+    let early = c .before .before .before in
+    rw (
+      early .before .before .number .ensures,
+      early .before .number2 .ensures,
+      early .number3 .ensures,
+      c .before .before .number4 .ensures,
+      c .before .number5 .ensures,
+      c .number6 .ensures,
+    )
 
 pub frame-spec : {M : Type 1} → statement M
 frame-spec =

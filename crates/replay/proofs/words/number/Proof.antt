@@ -1,3 +1,4 @@
+-- `number`: four bytes, the lowest first.
 use borrow.Author.Needs.{needs}
 use Rattle.replay.specs.Words.{wordAt}
 use Rattle.replay.proofs.words.number.Statement.{statement}
