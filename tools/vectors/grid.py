@@ -1,5 +1,5 @@
 #!/usr/bin/env python3
-"""Writes the vectors of crates/replay_grid: stdin, what the program reads, and stdout, what it must write.
+"""Writes the vectors of crates/replay_grid: stdin, what the program reads, and stdout, what it must write; behind them the sample of oracle/sample.
 
 Run it at the project's root: python3 tools/vectors/grid.py
 
@@ -11,10 +11,13 @@ A record is 18 words of 32 bits, low byte first: width, height, upsampling, lf_l
 sample sizes are asked for; a group number; a point x, y; a region left, top, width, height; and another.
 """
 import math
-import pathlib
 import random
 import struct
+import sys
 from fractions import Fraction
+
+sys.dont_write_bytecode = True
+from stored import store
 
 TOP = 2 ** 32 - 1
 WIDEST = 1073760511
@@ -168,15 +171,12 @@ def records():
 
 
 def main():
-    here = pathlib.Path('crates/replay_grid')
     lines, data = [], b''
     for record in records():
         record = tuple(min(n, TOP) for n in record)
         data += struct.pack('<18I', *record)
         lines.append('\t'.join(str(n) for n in due(record)))
-    assert len(data) <= 65536, len(data)
-    (here / 'stdin').write_bytes(data)
-    (here / 'stdout').write_text('\n'.join(lines) + '\n')
+    store('grid', data, '\n'.join(lines) + '\n')
     print(len(lines), 'records')
 
 

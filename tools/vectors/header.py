@@ -1,5 +1,5 @@
 #!/usr/bin/env python3
-"""Vectors for the crate `header`: writes crates/replay_header/stdin and stdout.
+"""Vectors for the crate `header`: writes crates/replay_header/stdin and stdout, behind them the sample of oracle/sample.
 
 Run it at the project's root. What is due is computed by a reader of its own (header_reading.py), written from the rules ("Bounds", "Refusal numbers", "Bits and numbers",
 "Header fields", "Filter fields") and the bundles of src/header.rs, going down their fields in order. Nothing is taken from the Rattle code. The bits come from
@@ -11,7 +11,6 @@ A record is 16 words of 32 bits and then its input bytes. Word 0: 0 one run, 1 a
   questions: a number, and the low and high half of 64 bits of flags
 A line of a run: refusal, place, end, every number of the record where nothing was refused, all numbers of the record in one, and each buffer in one.
 """
-import pathlib
 import random
 import struct
 import sys
@@ -19,6 +18,7 @@ import sys
 sys.dont_write_bytecode = True
 from header_reading import LF, REFERENCE, REGULAR, SKIP, Facts, answer, flag_numbers, mixed, numbers
 from header_writing import Writer, make, some_half, some_weights
+from stored import store
 
 random.seed(5)
 ROOM = (1080, 260, 1030)
@@ -279,10 +279,7 @@ def main():
     for k in range(64):
         question(k % 5, 1 << k)
 
-    here = pathlib.Path('crates/replay_header')
-    here.mkdir(parents=True, exist_ok=True)
-    (here / 'stdin').write_bytes(b''.join(RECORDS))
-    (here / 'stdout').write_text('\n'.join(LINES) + '\n')
+    store('header', b''.join(RECORDS), '\n'.join(LINES) + '\n')
     print(len(RECORDS), 'records', sum(map(len, RECORDS)), 'bytes', len(LINES), 'lines')
 
 

@@ -1,11 +1,14 @@
 #!/usr/bin/env python3
-"""Writes crates/replay_toc/stdin and stdout: the vectors of the crate `toc`, and what is due for each.
+"""Writes crates/replay_toc/stdin and stdout: the vectors of the crate `toc`, and what is due for each; behind them the sample of oracle/sample.
 
 Run it at the project's root. What is due comes from the rules ("Refusal numbers", "Grid", "Sections"), by Python's own means: whole
 numbers without bounds, bits as a list, offsets by a running sum in sent order. Sources are named at each vector.
 """
-import pathlib
 import struct
+import sys
+
+sys.dont_write_bytecode = True
+from stored import store
 
 BYTES, ROOM, UNTOUCHED = 270000, 65540, 7
 CHOICES = [(0, 10), (1024, 14), (17408, 22), (4211712, 30)]
@@ -309,9 +312,7 @@ def full():
 
 def main():
     pairs = [*kinds(), *frames(), *sections(), *full()]
-    home = pathlib.Path('crates/replay_toc')
-    (home / 'stdin').write_bytes(b''.join(r for r, _ in pairs))
-    (home / 'stdout').write_text(''.join(t for _, t in pairs))
+    store('toc', b''.join(r for r, _ in pairs), ''.join(t for _, t in pairs))
     print(len(pairs), 'records')
 
 

@@ -1,1 +1,1 @@
-pub mod Shown
+pub mod Walks

@@ -4,212 +4,180 @@
 // coded form, two of no use, and how many bytes follow.
 // Lines: the header's refusal, its place and end, and the six numbers of its frame; the answer of each entry; then for each section
 // kind, pass, group, sent number, offset and size.
+use bits::Refusal;
+use grid::Frame;
 use header::Facts;
-use header::HeaderAnswer;
-ghost use Prim.Native.Nat.{_≤_};
+use order::SectionNumber;
+use toc::TocRead;
+
+// Where a header ends, and its frame.
+struct Beginning {
+    end: u64,
+    frame: Frame,
+}
 
 fn main() {
-    let mut buf = [0u8; 65536];
-    let n = io::read_full(0, &mut buf);
-    run(&buf[..n]);
-}
-
-fn run(s: &[u8]) {
-    let mut at: usize = 0;
-    while at < s.len() {
-        at += record(&s[at..]);
+    let mut r = [0u8; 64];
+    for _ in 0..100000u32 {
+        if io::read_full(0, &mut r) != 64 {
+            return;
+        }
+        record(&r);
     }
 }
 
-// How long the record was.
-fn record(r: &[u8]) -> usize
-    ensures { λ k. ⌜ (64 ≤ k) × (k ≤ 8256) ⌝ }
-{
-    let n = (replay::word(r, 32) % 4097) as usize;
-    let m = (replay::word(r, 0) % 1025) as usize;
-    let mut lent = [0u32; 1024];
-    make_order(r, 64 + n, &mut lent);
-    one(r, part(r, n), &lent, m);
-    64 + n + 4 * m
+fn record(r: &[u8]) {
+    let mut input = io::buffer();
+    let mut numbers = io::buffer();
+    let n = replay::room_bytes(&input, replay::word(r, 32));
+    let m = replay::room_bytes(&numbers, replay::word(r, 0) % 1025 * 4);
+    one(r, &mut input[..n], &mut numbers[..m]);
 }
 
-// The numbers that follow the bytes.
-fn make_order(r: &[u8], start: usize, lent: &mut [u32]) {
-    let n = lent.len();
-    let mut i: usize = 0;
-    while i < n {
-        lent[i] = number_at(r, start, i);
-        i += 1;
-    }
-}
-
-fn number_at(r: &[u8], start: usize, i: usize) -> u32 {
-    if i < 1024 {
-        return late_word(r, start, 4 * i);
-    }
-    0
-}
-
-fn late_word(r: &[u8], start: usize, more: usize) -> u32 {
-    if start < r.len() {
-        return replay::word(&r[start..], more);
-    }
-    0
-}
-
-// The frame's bytes: none where the record is cut.
-fn part(r: &[u8], n: usize) -> &[u8] {
-    if 4096 < n {
-        return &r[..0];
-    }
-    let end = 64 + n;
-    if r.len() < end {
-        return &r[..0];
-    }
-    &r[64..end]
-}
-
-fn one(r: &[u8], s: &[u8], lent: &[u32], m: usize) {
-    let mut name = [0u8; 1071];
-    let mut upsampling = [0u32; 256];
-    let mut blending = [0u32; 1024];
-    let a = header::read_frame_header(s, facts(r), &mut name, &mut upsampling, &mut blending);
-    show(a);
-    let h = a.header;
-    let f = h.frame();
-    tables(s, f, a.end, &lent[..0]);
+fn one(r: &[u8], s: &mut [u8], numbers: &mut [u8]) {
+    io::read_full(0, s);
+    io::read_full(0, numbers);
+    let h = head(s, facts(r));
+    let m = replay::word(r, 0);
+    tables(s, h.frame, h.end, numbers, 0);
     if 0 < m {
-        tables(
-            s,
-            f,
-            replay::word(r, 20) as u64,
-            &lent[..least(m, lent.len())],
-        );
+        tables(s, h.frame, replay::word(r, 20) as u64, numbers, m);
     }
-}
-
-fn least(a: usize, b: usize) -> usize
-    ensures { λ r. ⌜ r ≤ b ⌝ }
-{
-    if a < b { a } else { b }
 }
 
 fn facts(r: &[u8]) -> Facts {
-    let flags = replay::word(r, 12);
+    let q = replay::four(r, 4);
     Facts {
-        width: replay::word(r, 4),
-        height: replay::word(r, 8),
-        xyb: flags % 2 == 1,
-        grey: flags / 2 % 2 == 1,
-        extra: replay::word(r, 16),
-        animation: flags / 4 % 2 == 1,
-        timecodes: flags / 8 % 2 == 1,
+        width: q.a,
+        height: q.b,
+        xyb: q.c % 2 == 1,
+        grey: q.c / 2 % 2 == 1,
+        extra: q.d,
+        animation: q.c / 4 % 2 == 1,
+        timecodes: q.c / 8 % 2 == 1,
     }
 }
 
-fn show(a: HeaderAnswer) {
-    let refusal = a.refusal;
-    print(refusal.number as u64);
-    print(refusal.place);
-    print(a.end);
+fn head(s: &[u8], facts: Facts) -> Beginning {
+    let mut name = [0u8; 1071];
+    let mut upsampling = [0u32; 256];
+    let mut blending = [0u32; 1024];
+    let a = header::read_frame_header(s, facts, &mut name, &mut upsampling, &mut blending);
     let h = a.header;
-    let f = h.frame();
-    print(f.width as u64);
-    print(f.height as u64);
-    print(f.upsampling as u64);
-    print(f.lf_level as u64);
-    print(f.group_size_shift as u64);
-    print(f.num_passes as u64);
-    io::write_all(1, b"\n");
+    begun(a.refusal, a.end, h.frame())
 }
 
-// The first entry where no order is lent, else the second.
-fn entry(
-    s: &[u8],
-    f: grid::Frame,
-    place: u64,
-    lent: &[u32],
-    offsets: &mut [u64],
-    sizes: &mut [u32],
-    order: &mut [u32],
-    inverse: &mut [u32],
-) -> toc::TocRead {
-    if lent.len() == 0 {
-        return toc::read_toc(s, f, place, offsets, sizes, order, inverse);
-    }
-    toc::read_toc_with_order(s, f, place, lent, offsets, sizes, order, inverse)
+fn begun(refusal: Refusal, end: u64, f: Frame) -> Beginning {
+    replay::refusal(refusal);
+    replay::show(end);
+    replay::cells(
+        &[
+            f.width,
+            f.height,
+            f.upsampling,
+            f.lf_level,
+            f.group_size_shift,
+            f.num_passes,
+        ],
+    );
+    replay::end();
+    Beginning { end, frame: f }
 }
 
-fn tables(s: &[u8], f: grid::Frame, place: u64, lent: &[u32]) {
-    let mut offsets = [0u64; 1024];
-    let mut sizes = [0u32; 1024];
-    let mut order = [0u32; 1024];
-    let mut inverse = [0u32; 1024];
-    let answer = entry(
+fn tables(s: &[u8], f: Frame, place: u64, numbers: &[u8], lent: u32) {
+    let mut offsets = replay::longs(0);
+    let mut sizes = replay::table(0);
+    let mut order = replay::table(0);
+    let mut inverse = replay::table(0);
+    work(
         s,
         f,
         place,
+        numbers,
         lent,
         &mut offsets,
         &mut sizes,
         &mut order,
         &mut inverse,
     );
-    let count = answered(answer);
-    sections(f, count, &offsets, &sizes, &order);
+}
+
+fn work(
+    s: &[u8],
+    f: Frame,
+    place: u64,
+    numbers: &[u8],
+    lent: u32,
+    offsets: &mut [u64],
+    sizes: &mut [u32],
+    order: &mut [u32],
+    inverse: &mut [u32],
+) {
+    let t = entry(s, f, place, numbers, lent, offsets, sizes, order, inverse);
+    let count = answered(t);
+    let n = replay::room_words(order, count);
+    rows(f, count, offsets, sizes, &order[..n]);
+}
+
+// The first entry where no order is lent, else the second.
+fn entry(
+    s: &[u8],
+    f: Frame,
+    place: u64,
+    numbers: &[u8],
+    lent: u32,
+    offsets: &mut [u64],
+    sizes: &mut [u32],
+    order: &mut [u32],
+    inverse: &mut [u32],
+) -> TocRead {
+    if lent == 0 {
+        return toc::read_toc(s, f, place, offsets, sizes, order, inverse);
+    }
+    let mut given = replay::table(0);
+    replay::put_words(&mut given, numbers, 0, lent);
+    let m = replay::room_words(&given, lent);
+    toc::read_toc_with_order(s, f, place, &given[..m], offsets, sizes, order, inverse)
 }
 
 // 0, the count, the data start and the total; or 1 and the place; or 2, the refusal and its place. How many sections there are to show.
-fn answered(t: toc::TocRead) -> u32 {
+fn answered(t: TocRead) -> u32 {
     let count = match t {
-        toc::TocRead::Table(x) => {
-            print(0);
-            print(x.count as u64);
-            print(x.bookmark);
-            print(x.total_byte_size);
+        TocRead::Table(x) => {
+            replay::cells(&[0, x.count]);
+            replay::show(x.bookmark);
+            replay::show(x.total_byte_size);
             x.count
         }
-        toc::TocRead::OrderNeeded(p) => {
-            print(1);
-            print(p);
+        TocRead::OrderNeeded(p) => {
+            replay::show(1);
+            replay::show(p);
             0
         }
-        toc::TocRead::Refused(e) => {
-            print(2);
-            print(e.number as u64);
-            print(e.place);
+        TocRead::Refused(e) => {
+            replay::show(2);
+            replay::refusal(e);
             0
         }
     };
-    io::write_all(1, b"\n");
+    replay::end();
     count
 }
 
-fn sections(f: grid::Frame, count: u32, offsets: &[u64], sizes: &[u32], order: &[u32]) {
-    let used = least(count as usize, order.len());
-    let mut i: u32 = 0;
-    while i < count {
-        section(f, order::SectionNumber(i), offsets, sizes, &order[..used]);
-        i += 1;
+fn rows(f: Frame, count: u32, offsets: &[u64], sizes: &[u32], order: &[u32]) {
+    for i in 0..count {
+        row(f, SectionNumber(i), offsets, sizes, order);
     }
 }
 
-fn section(f: grid::Frame, n: order::SectionNumber, offsets: &[u64], sizes: &[u32], order: &[u32]) {
+fn row(f: Frame, n: SectionNumber, offsets: &[u64], sizes: &[u32], order: &[u32]) {
     let a = sections::kind_of(f, n);
     let kind = a.kind;
     let k = sections::kind_numbers(kind);
-    print(k.kind as u64);
-    print(k.pass_idx as u64);
-    print(k.group_idx as u64);
     let t = sections::sent_of_section(f, order, n);
-    print(t.sent.0 as u64);
     let p = sections::section_at(f, offsets, sizes, n);
-    print(p.offset);
-    print(p.size as u64);
-    io::write_all(1, b"\n");
-}
-
-fn print(n: u64) {
-    io::print_decimal(1, n);
-    io::write_all(1, b"\t");
+    replay::cells(&[k.kind, k.pass_idx, k.group_idx, t.sent.0]);
+    replay::show(p.offset);
+    replay::show(p.size as u64);
+    replay::end();
 }

@@ -1,7 +1,8 @@
 //! A sample of the Rust's answers as files for the replay programs, so that they are compared without any Rust at hand. What is due is
 //! made of the Rust's answers alone; of the proved reader only the types are used. The forms are those of crates/replay_header,
-//! replay_toc and replay_grid. Where a line also asks something that the Rust has no answer to, the rules' answer stands there: the
-//! refused header's zero record, the numbers 14 for an index that isn't there, and 13 for a table that was never filled.
+//! replay_toc and replay_grid, whose files have the sample behind the vectors of tools/vectors; the scripts there put it in. Where a line
+//! also asks something that the Rust has no answer to, the rules' answer stands there: the refused header's zero record, the numbers 14 for
+//! an index that isn't there, and 13 for a table that was never filled.
 
 use crate::frames;
 use crate::grid_case::{self, GridCase, four, wraps};
@@ -34,10 +35,10 @@ impl Pair {
     }
 
     fn store(&self, folder: &str, name: &str) -> std::io::Result<()> {
-        let home = Path::new(folder).join(format!("replay_oracle_{name}"));
-        fs::create_dir_all(&home)?;
-        fs::write(home.join("stdin"), &self.records)?;
-        fs::write(home.join("stdout"), &self.lines)?;
+        let home = Path::new(folder);
+        fs::create_dir_all(home)?;
+        fs::write(home.join(format!("{name}.stdin")), &self.records)?;
+        fs::write(home.join(format!("{name}.stdout")), &self.lines)?;
         println!("{name}: {} answers, {} and {} bytes", self.count, self.records.len(), self.lines.len());
         Ok(())
     }

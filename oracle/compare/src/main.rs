@@ -20,8 +20,8 @@ use verdict::Tally;
 
 const HELP: &str = "compare [--seed N] [--scale N] [--three]
     compares about N times a million inputs (12 unless told); --three adds all headers of three bytes
-compare --emit crates [--seed N]
-    writes a sample of the Rust's answers as input and output of the programs crates/replay_oracle_*";
+compare --emit oracle/sample [--seed N]
+    writes a sample of the Rust's answers; tools/vectors/grid.py, header.py and toc.py put it into the files of the programs crates/replay_*";
 
 struct Wanted {
     seed: u64,

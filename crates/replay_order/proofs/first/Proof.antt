@@ -1,14 +1,15 @@
--- `first`: eight words at most.
+-- `first`: a word a turn.
 use Prim.Native.Nat.{_≤_, _-_}
+use lib.ListN.{length}
 use borrow.Author.Needs.{needs}
 use Rattle.replay_order.proofs.first.Statement.{statement}
 use Rattle.replay_order.proofs.first.Tie as tie
 
 abbrev Inv-loop : tie.InvT-loop
-Inv-loop t i₀ t3 i = i ≤ 8
+Inv-loop t i₀ t3 i = i ≤ length t
 
 abbrev μ-loop : tie.MeasureT-loop
-μ-loop t i₀ t3 i = 8 - i
+μ-loop t i₀ t3 i = length t - i
 
 pub first-spec : {M : Type 1} → statement M
 first-spec =
@@ -16,7 +17,6 @@ first-spec =
     (tie.spec
     Inv-loop
     μ-loop
-    (λ c. search needs)
     (λ c. search needs)
     (λ c. search needs)
     (λ c κs. search needs)
