@@ -1,5 +1,5 @@
 #!/usr/bin/env python3
-"""Writes crates/replay_order/stdin and stdout: the vectors of the crate `order`, and what is due for each.
+"""Writes crates/replay_order/stdin and stdout: the vectors of the crate `order` and of the inverse in `toc`, and what is due for each.
 
 Run it at the project's root. What is due comes from the rules ("Refusal numbers", "Sections"), by Python's own means: an order is
 `sorted(order) == list(range(count))`, its inverse is written section by section. Sources are named at each vector.
@@ -40,7 +40,7 @@ def shown(table):
     return [mixed] + table[:8]
 
 
-def line(what, made, length, count, room, number, words):
+def line(made, length, count, room, number, words):
     words = words + [0] * (10 - len(words))
     if made == 0:
         order = words + [0] * (ROOM - 10)
@@ -50,24 +50,12 @@ def line(what, made, length, count, room, number, words):
             order[words[0]] = words[1]
     order = order[:length]
     table = [UNTOUCHED] * min(room, ROOM)
-    out = []
-    if what == 0:
-        refusal = judged(order, count)
-        inverted = 10 if count > MOST else 3 if len(table) < count else refusal
-        if inverted == 0:
-            table[:count] = inverse(order)
-        out = [refusal, 0, inverted, *looked_up(order, count, number), *looked_up(table, count, number)]
-    elif what == 1:
-        for i in range(min(count, len(table))):
-            table[i] = i
-    elif what == 2:
-        for i in range(min(count, len(order), len(table))):
-            table[i] = order[i]
-    else:
-        for section in range(min(count, len(order))):
-            if order[section] < len(table):
-                table[order[section]] = section
-    record = struct.pack('<16I', what, made, length, count, room, number, *words)
+    refusal = judged(order, count)
+    inverted = 10 if count > MOST else 3 if len(table) < count else refusal
+    if inverted == 0:
+        table[:count] = inverse(order)
+    out = [refusal, 0, inverted, *looked_up(order, count, number), *looked_up(table, count, number)]
+    record = struct.pack('<15I', made, length, count, room, number, *words)
     return record, '\t'.join(str(n) for n in out + shown(table)) + '\n'
 
 
@@ -79,58 +67,47 @@ def vectors():
     p5, p6 = [2, 0, 1, 3, 4], [0, 0, 1, 2, 3]
     # P5: the order and its inverse 1, 2, 0, 3, 4, each number looked up in both
     for number in range(6):
-        yield 0, 0, 5, 5, 5, number, p5
+        yield 0, 5, 5, 5, number, p5
     # the inverse's own inverse is the order again
-    yield 0, 0, 5, 5, 5, 0, [1, 2, 0, 3, 4]
+    yield 0, 5, 5, 5, 0, [1, 2, 0, 3, 4]
     # P6: 13
-    yield 0, 0, 5, 5, 5, 0, p6
+    yield 0, 5, 5, 5, 0, p6
     # no sections, one section, and one that isn't 0
-    yield 0, 0, 0, 0, 0, 0, []
-    yield 0, 0, 1, 1, 1, 0, [0]
-    yield 0, 0, 1, 1, 1, 1, [0]
-    yield 0, 0, 1, 1, 1, 0, [1]
-    yield 0, 0, 1, 0, 1, 0, [0]
+    yield 0, 0, 0, 0, 0, []
+    yield 0, 1, 1, 1, 0, [0]
+    yield 0, 1, 1, 1, 1, [0]
+    yield 0, 1, 1, 1, 0, [1]
+    yield 0, 1, 0, 1, 0, [0]
     # too long, too short: another length than count is 13
-    yield 0, 0, 6, 5, 6, 0, p5 + [5]
-    yield 0, 0, 4, 5, 5, 0, p5
+    yield 0, 6, 5, 6, 0, p5 + [5]
+    yield 0, 4, 5, 5, 0, p5
     # a number too large, at both ends; the largest there is
-    yield 0, 0, 5, 5, 5, 0, [5, 0, 1, 3, 4]
-    yield 0, 0, 5, 5, 5, 0, [2, 0, 1, 3, 5]
-    yield 0, 0, 5, 5, 5, 0, [2, 0, 1, 3, FAR]
+    yield 0, 5, 5, 5, 0, [5, 0, 1, 3, 4]
+    yield 0, 5, 5, 5, 0, [2, 0, 1, 3, 5]
+    yield 0, 5, 5, 5, 0, [2, 0, 1, 3, FAR]
     # a repeat at both ends, and of the two ends
-    yield 0, 0, 5, 5, 5, 0, [2, 2, 1, 3, 4]
-    yield 0, 0, 5, 5, 5, 0, [2, 0, 1, 4, 4]
-    yield 0, 0, 5, 5, 5, 0, [4, 0, 1, 3, 4]
+    yield 0, 5, 5, 5, 0, [2, 2, 1, 3, 4]
+    yield 0, 5, 5, 5, 0, [2, 0, 1, 4, 4]
+    yield 0, 5, 5, 5, 0, [4, 0, 1, 3, 4]
     # a table one word short is 3, before 13; a longer table keeps its words behind, and is itself no inverse of count entries
-    yield 0, 0, 5, 5, 4, 0, p5
-    yield 0, 0, 5, 5, 4, 0, p6
-    yield 0, 0, 5, 5, 7, 0, p5
+    yield 0, 5, 5, 4, 0, p5
+    yield 0, 5, 5, 4, 0, p6
+    yield 0, 5, 5, 7, 0, p5
     # a number that isn't below the count is 14, after 13
-    yield 0, 0, 5, 5, 5, FAR, p5
-    yield 0, 0, 5, 5, 5, FAR, p6
+    yield 0, 5, 5, 5, FAR, p5
+    yield 0, 5, 5, 5, FAR, p6
     # the largest count, reversed; with a repeat at each end and a number too large
-    yield 0, 1, MOST, MOST, MOST, 0, [NONE, 0]
-    yield 0, 1, MOST, MOST, MOST, MOST - 1, [NONE, 0]
-    yield 0, 1, MOST, MOST, MOST, MOST, [NONE, 0]
-    yield 0, 1, MOST, MOST, MOST, 0, [0, 0]
-    yield 0, 1, MOST, MOST, MOST, 0, [MOST - 1, MOST - 1]
-    yield 0, 1, MOST, MOST, MOST, 0, [0, MOST]
-    yield 0, 1, MOST, MOST, MOST - 1, 0, [NONE, 0]
+    yield 1, MOST, MOST, MOST, 0, [NONE, 0]
+    yield 1, MOST, MOST, MOST, MOST - 1, [NONE, 0]
+    yield 1, MOST, MOST, MOST, MOST, [NONE, 0]
+    yield 1, MOST, MOST, MOST, 0, [0, 0]
+    yield 1, MOST, MOST, MOST, 0, [MOST - 1, MOST - 1]
+    yield 1, MOST, MOST, MOST, 0, [0, MOST]
+    yield 1, MOST, MOST, MOST - 1, 0, [NONE, 0]
     # one section more is 10, whatever the tables
-    yield 0, 1, MOST + 1, MOST + 1, MOST + 1, 0, [NONE, 0]
-    yield 0, 0, 5, MOST + 1, 5, 0, p5
-    yield 0, 0, 5, FAR, 5, 0, p6
-    # the identity: as many words as count, as many as the table has, none
-    for count, room in ((5, 7), (5, 5), (7, 5), (0, 5), (5, 0), (MOST, MOST + 1), (FAR, 8)):
-        yield 1, 0, 0, count, room, 0, []
-    # the order's words: limited by the count, by the order, by the table
-    for length, count, room in ((5, 5, 7), (5, 3, 7), (3, 5, 7), (5, 5, 4), (0, 5, 5), (5, FAR, 5)):
-        yield 2, 0, length, count, room, 0, p5
-    # sections placed one by one: an order's inverse; the same limits; what is no order (the last of two stays, a number outside is passed over)
-    for length, count, room in ((5, 5, 7), (5, 3, 7), (3, 5, 7), (5, 5, 4), (0, 5, 5), (5, FAR, 5)):
-        yield 3, 0, length, count, room, 0, p5
-    yield 3, 0, 5, 5, 5, 0, p6
-    yield 3, 0, 5, 5, 5, 0, [9, 0, FAR, 3, 3]
+    yield 1, MOST + 1, MOST + 1, MOST + 1, 0, [NONE, 0]
+    yield 0, 5, MOST + 1, 5, 0, p5
+    yield 0, 5, FAR, 5, 0, p6
 
 
 def main():

@@ -12,4 +12,3 @@ element k limit d col i = row (ltb i limit) k d (λ r. col r i) λ v. ends v
 -- count elements, the first limit of which stand there; the others are the default
 abbrev pub array : {R : Type 0} → Codec → ℕ → ℕ → ℕ → (R → ℕ → ℕ) → Table R (List ℕ)
 array k limit count d col = times count 0 (element k limit d col)
-

@@ -33,4 +33,3 @@ defaultBack = record {
   closing = record { duration = 0; timecode = 0; «is_last» = 1; «save_as_reference» = 0; «save_before_ct» = 0; «name_length» = 0 };
   filter = filterDefault;
 }
-

@@ -83,4 +83,3 @@ header f =
     bind (front f) λ b.
     bind (back f (b .front .opening) (b .front .placement)) λ e.
     ends (record { front = b .front; upsampling = b .upsampling; back = e .back; blending = e .blending; name = e .name })
-

@@ -40,24 +40,29 @@ fn bundle(s: &[u8], q: Numbers) -> u64 {
     replay::show(f.next.at);
     let v = f.value;
     let epf = v.epf;
-    values(fault.number == 0, v.gab, epf.enabled, epf.params)
+    values(
+        fault.number == 0,
+        v.gab,
+        epf.enabled(),
+        epf.iters,
+        epf.params,
+    )
 }
 
-fn values(full: bool, gab: Gabor, enabled: bool, p: EpfParams) -> u64 {
-    let sigma = p.sigma;
+fn values(full: bool, gab: Gabor, enabled: bool, iters: u32, p: EpfParams) -> u64 {
     let weights = gab.weights;
     let lut = p.sharp_lut;
     let scale = p.channel_scale;
     let last = [
-        sigma.quant_mul,
-        sigma.pass0_sigma_scale,
-        sigma.pass2_sigma_scale,
-        sigma.border_sad_mul,
+        p.quant_mul,
+        p.pass0_sigma_scale,
+        p.pass2_sigma_scale,
+        p.border_sad_mul,
         p.sigma_for_modular,
     ];
-    let a = replay::sum_words(false, full, 0, &[gab.enabled as u32]);
+    let a = replay::sum_words(false, full, 0, &[gab.enabled() as u32]);
     let b = replay::sum_floats(false, full, a, &weights);
-    let c = replay::sum_words(false, full, b, &[enabled as u32, p.iters]);
+    let c = replay::sum_words(false, full, b, &[enabled as u32, iters]);
     let d = replay::sum_floats(false, full, c, &lut);
     let e = replay::sum_floats(false, full, d, &scale);
     replay::sum_floats(false, full, e, &last)

@@ -30,7 +30,8 @@ pub fn answer(a: HeaderAnswer) {
     let b = opening(full, h);
     let c = arrays(full, b, jpeg, six, p);
     let d = closing(full, c, h);
-    replay::show(filters(full, d, v.gab, epf.enabled, epf.params));
+    let three = [v.gab.enabled() as u32, epf.enabled() as u32, epf.iters];
+    replay::show(filters(full, d, three, v.gab, epf.params));
 }
 
 fn opening(full: bool, h: FrameHeader) -> u64 {
@@ -105,19 +106,17 @@ fn closing(full: bool, sum: u64, h: FrameHeader) -> u64 {
 }
 
 // The flags and the iterations are printed, the values are in the one number alone.
-fn filters(full: bool, sum: u64, gab: Gabor, enabled: bool, p: EpfParams) -> u64 {
-    let sigma = p.sigma;
+fn filters(full: bool, sum: u64, three: [u32; 3], gab: Gabor, p: EpfParams) -> u64 {
     let weights = gab.weights;
     let lut = p.sharp_lut;
     let scale = p.channel_scale;
     let last = [
-        sigma.quant_mul,
-        sigma.pass0_sigma_scale,
-        sigma.pass2_sigma_scale,
-        sigma.border_sad_mul,
+        p.quant_mul,
+        p.pass0_sigma_scale,
+        p.pass2_sigma_scale,
+        p.border_sad_mul,
         p.sigma_for_modular,
     ];
-    let three = [gab.enabled as u32, enabled as u32, p.iters];
     let a = replay::sum_words(true, full, sum, &three);
     let b = replay::sum_floats(true, false, a, &weights);
     let c = replay::sum_floats(true, false, b, &lut);
@@ -126,9 +125,9 @@ fn filters(full: bool, sum: u64, gab: Gabor, enabled: bool, p: EpfParams) -> u64
 }
 
 pub fn questions(n: u32, bits: u64) {
-    let t = types::frame_type_of(n);
-    let e = types::encoding_of(n);
-    let m = types::blend_mode_of(n);
+    let t = type_of(n);
+    let e = encoding_of(n);
+    let m = mode_of(n);
     let seven = [
         frame_type(t),
         t.is_normal_frame() as u32,
@@ -141,6 +140,46 @@ pub fn questions(n: u32, bits: u64) {
     let sum = replay::sum_words(true, true, 0, &seven);
     io::print_decimal(1, flags(true, sum, FrameFlags(bits)));
     replay::end();
+}
+
+// The cases by number, the last one for any other.
+fn type_of(n: u32) -> FrameType {
+    if n == 0 {
+        return FrameType::RegularFrame;
+    }
+    if n == 1 {
+        return FrameType::LfFrame;
+    }
+    if n == 2 {
+        FrameType::ReferenceOnly
+    } else {
+        FrameType::SkipProgressive
+    }
+}
+
+fn encoding_of(n: u32) -> Encoding {
+    if n == 0 {
+        Encoding::VarDct
+    } else {
+        Encoding::Modular
+    }
+}
+
+fn mode_of(n: u32) -> BlendMode {
+    if n == 0 {
+        return BlendMode::Replace;
+    }
+    if n == 1 {
+        return BlendMode::Add;
+    }
+    if n == 2 {
+        return BlendMode::Blend;
+    }
+    if n == 3 {
+        BlendMode::MulAdd
+    } else {
+        BlendMode::Mul
+    }
 }
 
 fn frame_type(t: FrameType) -> u32 {

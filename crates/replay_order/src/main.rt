@@ -1,12 +1,12 @@
-// Runs stored vectors through the crate `order` and prints what it answers, a line a record.
-// A record is 16 words: what to do (0 check, invert and look up; 1 identity; 2 order; 3 inverse into the table), how the order is made
-// (0 the given words; 1 reversed, with one word changed), its length, the count, the table's length, a number, and ten words.
+// Runs stored vectors through the crate `order` and the inverse of `toc`, and prints what they answer, a line a record.
+// A record is 15 words: how the order is made (0 the given words; 1 reversed, with one word changed), its length, the count, the table's
+// length, a number, and ten words.
 use replay::Numbers;
 
 fn main() {
-    let mut r = [0u8; 64];
+    let mut r = [0u8; 60];
     for _ in 0..100000u32 {
-        if io::read_full(0, &mut r) != 64 {
+        if io::read_full(0, &mut r) != 60 {
             return;
         }
         record(&r);
@@ -15,46 +15,32 @@ fn main() {
 
 fn record(r: &[u8]) {
     let p = replay::four(r, 0);
-    let q = replay::four(r, 16);
     let mut entries = replay::table(0);
     let mut table = replay::table(7);
-    make(r, p, q, &mut entries);
-    let n = replay::room_words(&entries, p.c);
-    let m = replay::room_words(&table, q.a);
-    act(p.a, p.d, q.b, &entries[..n], &mut table[..m]);
+    make(r, p, &mut entries);
+    let n = replay::room_words(&entries, p.b);
+    let m = replay::room_words(&table, p.d);
+    act(p.c, replay::word(r, 16), &entries[..n], &mut table[..m]);
 }
 
-fn make(r: &[u8], p: Numbers, q: Numbers, entries: &mut [u32]) {
-    if p.b == 0 {
-        replay::put_words(entries, r, 24, 10);
+fn make(r: &[u8], p: Numbers, entries: &mut [u32]) {
+    if p.a == 0 {
+        replay::put_words(entries, r, 20, 10);
         return;
     }
-    replay::reversed(entries, p.c);
-    fill::put_u32(entries, q.c as usize, q.d);
+    replay::reversed(entries, p.b);
+    fill::put_u32(entries, replay::word(r, 20) as usize, replay::word(r, 24));
 }
 
-fn act(what: u32, count: u32, number: u32, entries: &[u32], table: &mut [u32]) {
-    fill(what, count, number, entries, table);
+fn act(count: u32, number: u32, entries: &[u32], table: &mut [u32]) {
+    answers(entries, count, number, table);
     show(table);
-}
-
-fn fill(what: u32, count: u32, number: u32, entries: &[u32], table: &mut [u32]) {
-    if what == 0 {
-        return answers(entries, count, number, table);
-    }
-    if what == 1 {
-        return order::identity_into(table, count);
-    }
-    if what == 2 {
-        return order::order_into(entries, count, table);
-    }
-    order::inverse_into(entries, count, table);
 }
 
 // The check, the inverse, a section's sent number through the order, and a sent number's section through the table.
 fn answers(entries: &[u32], count: u32, number: u32, table: &mut [u32]) {
     replay::refusal(order::check_order(entries, count));
-    let inverted = order::invert(entries, count, table);
+    let inverted = toc::invert(entries, count, table);
     let sent = order::sent_of(entries, count, order::SectionNumber(number));
     let section = order::section_of(table, count, order::SentNumber(number));
     replay::cells(

@@ -10,7 +10,7 @@ pub main-spec : {M : Type 1} → statement M
 main-spec =
     tie.close
     (tie.spec
-    (λ r₀ counter₀ r counter. length r ≡ 64)
+    (λ r₀ counter₀ r counter. length r ≡ 60)
     (λ r₀ counter₀ r counter. 100000 - counter)
     (λ c. search needs)
     (λ c. search needs)
