@@ -269,15 +269,16 @@ module _ (f : Facts) (s : List ℕ) (before : Refusal) (bounds : before .number 
   unfolding answered
   answer-is = rw accepted
 
-  both : (before .number ≡ 0) × (stands f s .next .fault .number ≡ 0)
-  both = refusal-by (eqb (before .number) 0) before (stands f s .next .fault) refl (eqb-true (refusalOf before (stands f s) .number) 0 accepted)
+  -- neither before it was read nor while it was
+  pub unrefused : (before .number ≡ 0) × (stands f s .next .fault .number ≡ 0)
+  unrefused = refusal-by (eqb (before .number) 0) before (stands f s .next .fault) refl (eqb-true (refusalOf before (stands f s) .number) 0 accepted)
 
   pub handed-on : HandedOn f s (answered f before (stands f s))
   handed-on =
-      let six = read-has (Fronts f) (header f) (header-reads f) s (start 0) (eq-eqb (stands f s .next .fault .number) 0 (both .1)) in
+      let six = read-has (Fronts f) (header f) (header-reads f) s (start 0) (eq-eqb (stands f s .next .fault .number) 0 (unrefused .1)) in
       let inside : stands f s .next .at ≤ bitCount s = read-within-end (header f) s (start 0) (omega arith) in
       rw answer-is
-      (record { header = refl; end = refl; good = six-good f (stands f s .value) (bounds (both .0)) six; within = omega (arith, inside) })
+      (record { header = refl; end = refl; good = six-good f (stands f s .value) (bounds (unrefused .0)) six; within = omega (arith, inside) })
 
 -- the facts are judged before anything is read
 facts-by : (a b c : Bool) → pick a (refusal 2 0) (pick b (refusal 1 0) (pick c (refusal 3 0) none)) .number ≡ 0 → b ≡ false

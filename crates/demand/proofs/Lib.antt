@@ -5,3 +5,5 @@ pub mod Headers
 pub mod Frames
 pub mod Refusals
 pub mod Listings
+pub mod Lent
+pub mod LentEntries

@@ -60,7 +60,7 @@ pub record Ready (f : Frame) (toc : Toc) (due sent : List ℕ) (t : Tables) : Ty
   pub size : (j : ℕ) → j < toc .count → getD (t .sizes) j 0 ≡ getD sent (getD due j 0) 0
 
 -- the first words of a table that was filled
-take-filled : (new table : List ℕ) (n : ℕ) → length new ≡ n → n ≤ length table → take n (filled new table) ≡ new
+pub take-filled : (new table : List ℕ) (n : ℕ) → length new ≡ n → n ≤ length table → take n (filled new table) ≡ new
 unfolding filled
 take-filled new table n e h = rw (take-all (length table) new (omega arith)) (take-at new (drop (length new) table) n e)
 
@@ -180,7 +180,7 @@ module _ (f : Frame) (ok : gridOf f .refusal .number ≡ 0) where
       → _≡_ {A = Placed} (groupRect f i) (record { rect = rectOf (colorWidth f) (colorHeight f) (groupSide f) i; refusal = none })
   rect-is i l = ap (λ (d : ℕ). rectFor (gridOf f) d i) side-is ∙ rect-answer f ok (groupSide f) i l
 
-  has-group : (i : ℕ) → groupRect f i .refusal ≡ none → i < count (colorWidth f) (colorHeight f) (groupSide f)
+  pub has-group : (i : ℕ) → groupRect f i .refusal ≡ none → i < count (colorWidth f) (colorHeight f) (groupSide f)
   unfolding rectFor placed has laid
   has-group i e =
       let g : Grid = gridOf f in
