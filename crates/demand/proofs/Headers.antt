@@ -1,22 +1,19 @@
 -- What an accepted header hands on: a frame that is never refused with 8, and a place that is not past the end of the input.
-use Prim.Native.Nat.{ℕ, _+_, _*_, _%_, _^_, _≤_, _<_}
+use Prim.Native.Nat.{ℕ, _+_, _≤_, _<_}
 use native.Mathlib.Omega.{arith}
-use mathlib.Core.Path.{_≡_, refl, sym, _∙_, ap}
+use mathlib.Core.Path.{_≡_, refl}
 use mathlib.Core.Logic.{inl, inr}
 use mathlib.Core.List.{List}
-use mathlib.Core.Bool.{Bool, true, false, not, _&&_, _||_}
-use lib.Dec.{eqb, leb, ltb}
+use mathlib.Core.Bool.{Bool, true, false, _||_}
+use lib.Dec.{eqb, ltb}
 use lib.Ieee.{Float}
-use lib.ListN.{length}
 use borrow.Author.Tests.{eq-eqb, eqb-true, eqb-false, le-leb, ltb-false}
 use Rattle.bits.specs.declared.Refusal.{Refusal}
-use Rattle.bits.specs.Refusals.{pick, refusal, none, start, clear}
+use Rattle.bits.specs.Refusals.{pick, refusal, none, start}
 use Rattle.bits.specs.Bits.{bitCount}
 use Rattle.bits.specs.Codec.{Codec, u, u32, val}
-use Rattle.bits.specs.Table.{Out, read}
 use Rattle.bits.proofs.Reading.{read-within-end}
 use Rattle.bits.proofs.Numbered.{of-both}
-use Rattle.grid.specs.declared.Frame.{Frame}
 use Rattle.grid.specs.Measured.{upsamples, goodRecord}
 use Rattle.order.proofs.Entries.{and-both}
 use Rattle.filter.specs.Values.{float, floats}
@@ -230,8 +227,9 @@ or-parts true false e = (e, refl)
 -- facts within the bounds
 size-facts : (f : Facts) → badFacts f ≡ false → (f .width ≤ 1073741824) × (f .height ≤ 1073741824)
 size-facts f e =
-    let both = or-parts ((eqb (f .width) 0 || ltb 1073741824 (f .width)) || (eqb (f .height) 0 || ltb 1073741824 (f .height))) (ltb 256 (f .extra)) e .0 in
-    let sizes = or-parts (eqb (f .width) 0 || ltb 1073741824 (f .width)) (eqb (f .height) 0 || ltb 1073741824 (f .height)) both in
+    let w : Bool = eqb (f .width) 0 || ltb 1073741824 (f .width) in
+    let h : Bool = eqb (f .height) 0 || ltb 1073741824 (f .height) in
+    let sizes = or-parts w h (or-parts (w || h) (ltb 256 (f .extra)) e .0) in
     let wide = or-parts (eqb (f .width) 0) (ltb 1073741824 (f .width)) (sizes .0) .1 in
     let high = or-parts (eqb (f .height) 0) (ltb 1073741824 (f .height)) (sizes .1) .1 in
     (ltb-false 1073741824 (f .width) wide, ltb-false 1073741824 (f .height) high)
@@ -242,9 +240,11 @@ six-good f h b x =
     let p = passes-good (h .front .passes .«num_passes») (x .passes) in
     let size = size-facts f b in
     and-both
-    (and-both (upsamples-good (h .front .opening .upsampling) (x .upsampling)) (and-both (le-leb 1 (h .front .passes .«num_passes») (p .0)) (le-leb (h .front .passes .«num_passes») 11 (p .1))))
+    (and-both (upsamples-good (h .front .opening .upsampling) (x .upsampling))
+    (and-both (le-leb 1 (h .front .passes .«num_passes») (p .0)) (le-leb (h .front .passes .«num_passes») 11 (p .1))))
     (and-both
-    (and-both (le-leb (h .front .placement .«lf_level») 4 (x .placement .level)) (le-leb (h .front .scales .«group_size_shift») 3 (shift-good (h .front .scales .«group_size_shift») (x .shift))))
+    (and-both (le-leb (h .front .placement .«lf_level») 4 (x .placement .level))
+    (le-leb (h .front .scales .«group_size_shift») 3 (shift-good (h .front .scales .«group_size_shift») (x .shift))))
     (and-both
     (le-leb (h .front .placement .width) 1073760511 (size-good (f .width) (h .front .placement .width) (size .0) (x .placement .width)))
     (le-leb (h .front .placement .height) 1073760511 (size-good (f .height) (h .front .placement .height) (size .1) (x .placement .height)))))
@@ -256,16 +256,19 @@ unfolding refusedHeader
 answered-by true x r e h = refl
 answered-by false x r e h = absurd (eqb-false (r .number) 0 e h)
 
-refusal-by : (b : Bool) (before fault : Refusal) → eqb (before .number) 0 ≡ b → pick b fault before .number ≡ 0 → (before .number ≡ 0) × (fault .number ≡ 0)
+refusal-by : (b : Bool) (before fault : Refusal) → eqb (before .number) 0 ≡ b → pick b fault before .number ≡ 0
+    → (before .number ≡ 0) × (fault .number ≡ 0)
 refusal-by true before fault e h = (eqb-true (before .number) 0 e, h)
 refusal-by false before fault e h = absurd (eqb-false (before .number) 0 e h)
 
-module _ (f : Facts) (s : List ℕ) (before : Refusal) (bounds : before .number ≡ 0 → badFacts f ≡ false) (ok : answered f before (stands f s) .refusal .number ≡ 0) where
+module _ (f : Facts) (s : List ℕ) (before : Refusal) (bounds : before .number ≡ 0 → badFacts f ≡ false)
+    (ok : answered f before (stands f s) .refusal .number ≡ 0) where
   accepted : eqb (refusalOf before (stands f s) .number) 0 ≡ true
   unfolding answered
   accepted = answered-by (eqb (refusalOf before (stands f s) .number) 0) _ (refusalOf before (stands f s)) refl ok
 
-  answer-is : _≡_ {A = HeaderAnswer} (answered f before (stands f s)) (record { header = frameHeader f (stands f s .value .front) (stands f s .value .back); end = stands f s .next .at; refusal = none })
+  answer-is : _≡_ {A = HeaderAnswer} (answered f before (stands f s))
+      (record { header = frameHeader f (stands f s .value .front) (stands f s .value .back); end = stands f s .next .at; refusal = none })
   unfolding answered
   answer-is = rw accepted
 

@@ -1,47 +1,40 @@
--- The demand of what the C functions leave in lent memory: where the header function's status is 0, and that of a section entry which is asked with the
--- header's own words, the look-ups leave the words of the theorem.
-use Prim.Native.Nat.{ℕ, _+_, _*_, _%_, _≤_, _<_, _^_}
+-- The demand of what the C functions leave in lent memory: the look-ups leave the words of the theorem.
+use Prim.Native.Nat.{ℕ, _≤_, _<_}
 use native.Mathlib.Omega.{arith}
 use mathlib.Core.Path.{_≡_, refl, sym, _∙_, ap}
-use mathlib.Core.Logic.{inl, inr}
-use mathlib.Core.List.{List, [], _∷_}
-use mathlib.Core.Bool.{Bool, true, false, _&&_}
-use lib.Dec.{eqb, leb, ltb}
-use lib.ListN.{length, getD, take, set}
-use lib.Seq.{sets, length-sets, getD-take, getD-set-same, getD-set-other}
-use borrow.Author.Tests.{eq-eqb, eqb-true, eqb-false, le-leb, leb-true, le-ltb, ltb-false}
-use Rattle.fill.proofs.Filling.{sets-inside, sets-outside}
-use Rattle.bits.specs.declared.Refusal.{Refusal}
-use Rattle.bits.specs.Refusals.{pick, refusal, none}
-use Rattle.bits.proofs.Numbered.{of-both}
+use mathlib.Core.List.{List}
+use mathlib.Core.Bool.{false}
+use lib.ListN.{length, getD, take}
+use lib.Seq.{sets, getD-take}
+use borrow.Author.Tests.{le-ltb}
+use Rattle.bits.specs.Refusals.{refusal, none}
 use Rattle.grid.specs.declared.Frame.{Frame}
 use Rattle.grid.specs.declared.Grid.{Grid}
 use Rattle.grid.specs.declared.Placed.{Placed}
 use Rattle.grid.specs.Measured.{gridOf, laid}
 use Rattle.grid.specs.Sizes.{colorWidth, colorHeight, groupSide, count}
-use Rattle.grid.specs.Groups.{has, judge, placed, rectFor}
+use Rattle.grid.specs.Groups.{has, placed, rectFor}
 use Rattle.grid.proofs.Accepted.{accepted}
 use Rattle.grid.proofs.Answers.{judge-unknown}
 use Rattle.order.specs.declared.SectionAnswer.{SectionAnswer}
 use Rattle.order.specs.declared.SentAnswer.{SentAnswer}
 use Rattle.order.proofs.Tables.{filled-sets}
 use Rattle.sections.specs.declared.KindAnswer.{KindAnswer}
-use Rattle.sections.specs.declared.SectionPlace.{SectionPlace}
-use Rattle.sections.specs.Kinds.{numbersOf, kindOf}
+use Rattle.sections.specs.Kinds.{kindOf}
 use Rattle.sections.specs.Lookups.{sectionOfSample}
 use Rattle.toc.specs.declared.Toc.{Toc}
 use Rattle.toc.specs.Reading.{Tables}
-use Rattle.c_words.specs.Status.{statusOf}
 use Rattle.c_words.specs.Answers.{Answer, refusalFor, Given}
 use Rattle.c_words.specs.Records.{gridAnswer, placedAnswer, sectionAnswer, sentAnswer, kindAnswer, placeAnswer}
-use Rattle.demand.specs.Whole.{colourWidth, colourHeight, groupRect, found, placeIn, sentIn, sectionIn, numbered, ExactlyOne, Lies, Covers, Whole}
+use Rattle.demand.specs.Whole.{groupRect, found, placeIn, sentIn, sectionIn, numbered, Lies, Covers, Whole}
 use Rattle.demand.specs.Lent.{Leaves, LiesBy, CoversBy, LentWhole}
 use Rattle.demand.proofs.Lookups.{take-filled, has-group, rect-is}
 
 -- ---- what a promise leaves
 
 -- nothing is refused and there is room: the status is 0, and the words stand in front
-module _ (a : Answer) (ok : a .refusal ≡ none) (before after : List ℕ) (status : ℕ) (room : length (a .words) ≤ length before) (g : Given a before status after) where
+module _ (a : Answer) (ok : a .refusal ≡ none) (before after : List ℕ) (status : ℕ) (room : length (a .words) ≤ length before)
+    (g : Given a before status after) where
   unrefused : refusalFor a before ≡ none
   unrefused = rw (le-ltb (length before) (length (a .words)) room) ok
 
@@ -58,12 +51,14 @@ leaves : (a : Answer) → a .refusal ≡ none → Leaves a (a .words)
 leaves a ok = record { call = λ before after status room g. (status-is a ok before after status room g, front-is a ok before after status room g) }
 
 -- 14 stays 14 where there is room
-refused-status : (a : Answer) → a .refusal ≡ refusal 14 0 → (before after : List ℕ) (status : ℕ) → length (a .words) ≤ length before → Given a before status after → status ≡ 14
+refused-status : (a : Answer) → a .refusal ≡ refusal 14 0 → (before after : List ℕ) (status : ℕ) → length (a .words) ≤ length before
+    → Given a before status after → status ≡ 14
 refused-status a e before after status room g = g .status ∙ rw (le-ltb (length before) (length (a .words)) room, e)
 
 -- ---- the words of the theorem, of a frame that is not refused
 
-module _ (f : Frame) (toc : Toc) (due sent : List ℕ) (t : Tables) (ok : gridOf f .refusal .number ≡ 0) (counted : toc .count ≡ gridOf f .sections) (w : Whole f toc due sent t) where
+module _ (f : Frame) (toc : Toc) (due sent : List ℕ) (t : Tables) (ok : gridOf f .refusal .number ≡ 0) (counted : toc .count ≡ gridOf f .sections)
+    (w : Whole f toc due sent t) where
   groups-are : gridOf f .groups ≡ count (colorWidth f) (colorHeight f) (groupSide f)
   unfolding laid
   groups-are = ap (λ (g : Grid). g .groups) (accepted f ok .grid)
@@ -79,7 +74,8 @@ module _ (f : Frame) (toc : Toc) (due sent : List ℕ) (t : Tables) (ok : gridOf
   unfolding rectFor placed has laid
   rect-past i l =
       let g : Grid = gridOf f in
-      let no : has g (g .side) i ≡ false = rw (accepted f ok .grid) (le-ltb i (count (colorWidth f) (colorHeight f) (groupSide f)) (rw groups-are at l)) in
+      let no : has g (g .side) i ≡ false =
+      rw (accepted f ok .grid) (le-ltb i (count (colorWidth f) (colorHeight f) (groupSide f)) (rw groups-are at l)) in
       sym (judge-unknown g (has g (g .side) i) (refusal 14 0) ok no refl)
 
   abbrev leftOf : ℕ → ℕ
@@ -129,10 +125,12 @@ module _ (f : Frame) (toc : Toc) (due sent : List ℕ) (t : Tables) (ok : gridOf
   kind-leaves k due e n = rw e (leaves (kindAnswer due) n)
 
   measured : (before after : List ℕ) (status : ℕ) → 11 ≤ length before → Given (gridAnswer (gridOf f)) before status after
-      → (status ≡ 0) × (getD after 0 0 ≡ gridOf f .width) × (getD after 1 0 ≡ gridOf f .height) × (getD after 8 0 ≡ gridOf f .groups) × (getD after 10 0 ≡ toc .count)
+      → (status ≡ 0) × (getD after 0 0 ≡ gridOf f .width) × (getD after 1 0 ≡ gridOf f .height) × (getD after 8 0 ≡ gridOf f .groups)
+      × (getD after 10 0 ≡ toc .count)
   measured before after status room g =
       let said = leaves (gridAnswer (gridOf f)) grid-none .call before after status room g in
-      let at : (k : ℕ) → k < 11 → getD after k 0 ≡ getD (gridAnswer (gridOf f) .words) k 0 = λ k l. sym (getD-take 11 after k 0 l) ∙ ap (λ (l : List ℕ). getD l k 0) (said .1) in
+      let at : (k : ℕ) → k < 11 → getD after k 0 ≡ getD (gridAnswer (gridOf f) .words) k 0 =
+      λ k l. sym (getD-take 11 after k 0 l) ∙ ap (λ (l : List ℕ). getD l k 0) (said .1) in
       (said .0, at 0 (omega arith), at 1 (omega arith), at 8 (omega arith), at 10 (omega arith) ∙ sym counted)
 
   pub lent-whole : LentWhole f (toc .count) (toc .bookmark) (toc .«total_byte_size») due sent t
@@ -141,7 +139,8 @@ module _ (f : Frame) (toc : Toc) (due sent : List ℕ) (t : Tables) (ok : gridOf
     size = sizeOf;
     section-at = λ j l. leaves (placeAnswer (placeIn f t (numbered j))) (w .sections (numbered j) l .answered);
     sent = λ j. sentIn f toc t (numbered j) .sent .0;
-    sent-of-section = λ j l. leaves (sentAnswer (sentIn f toc t (numbered j))) (ap (λ (a : SentAnswer). a .refusal) (w .there-and-back .sent (numbered j) l));
+    sent-of-section =
+        λ j l. leaves (sentAnswer (sentIn f toc t (numbered j))) (ap (λ (a : SentAnswer). a .refusal) (w .there-and-back .sent (numbered j) l));
     section = λ k. sectionIn f toc t (record { 0 = k }) .section .0;
     section-of-sent = λ k l. leaves (sectionAnswer (sectionIn f toc t (record { 0 = k }))) (w .there-and-back .section (record { 0 = k }) l);
     across = gridOf f .width;

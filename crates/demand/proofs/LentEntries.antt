@@ -1,8 +1,8 @@
 -- The entries of C: where their status is 0, what the words say that they left. With these the demand holds of the look-ups' words.
-use Prim.Native.Nat.{ℕ, _+_, _-_, _*_, _%_, _≤_, _<_, _^_}
+use Prim.Native.Nat.{ℕ, _-_, _%_, _≤_, _<_}
 use native.Mathlib.Omega.{arith}
 use mathlib.Core.Path.{_≡_, refl, sym, _∙_, ap}
-use mathlib.Core.Logic.{inl, inr}
+use mathlib.Core.Logic.{inl}
 use mathlib.Core.List.{List, [], _∷_}
 use mathlib.Core.Bool.{Bool, true, false, _&&_, _||_}
 use lib.Dec.{eqb, leb, ltb}
@@ -12,15 +12,14 @@ use borrow.Author.Tests.{eqb-true, eqb-false, leb-true, ltb-false}
 use Rattle.fill.proofs.Filling.{sets-inside, sets-outside}
 use Rattle.bits.specs.declared.Refusal.{Refusal}
 use Rattle.bits.specs.declared.Cursor.{Cursor}
-use Rattle.bits.specs.Refusals.{pick, refusal, none, start, clear}
-use Rattle.bits.specs.Table.{Out, read}
+use Rattle.bits.specs.Refusals.{pick, refusal, start, clear}
+use Rattle.bits.specs.Table.{read}
 use Rattle.bits.proofs.Reading.{picked}
 use Rattle.bits.proofs.Numbered.{of-both}
 use Rattle.grid.specs.declared.Frame.{Frame}
 use Rattle.grid.specs.Measured.{upsamples, goodRecord, gridOf}
 use Rattle.grid.proofs.Accepted.{Good, good, and-parts}
 use Rattle.header.specs.declared.Facts.{Facts}
-use Rattle.header.specs.declared.FrameHeader.{FrameHeader}
 use Rattle.header.specs.declared.entry.HeaderAnswer.{HeaderAnswer}
 use Rattle.header.specs.Entry.{badFacts, judged, stands, answered}
 use Rattle.header.specs.Questions.{frameOf}
@@ -31,8 +30,7 @@ use Rattle.toc.specs.declared.TocRead.{TocRead}
 use Rattle.toc.specs.declared.TocRead.the-variants.{Table, OrderNeeded, Refused}
 use Rattle.toc.specs.Sizes.{sizeRows, tocRows}
 use Rattle.toc.specs.Reading.{Tables, tables, judged as judgedToc, judgedOrder, Reading, tocOf, sizedAnswer, firstRead, secondRead, refusedRead, firstReading, secondReading, Done}
-use Rattle.toc.proofs.Accepted.{Accepted, first-accepted, not-refused}
-use Rattle.c_words.specs.Status.{statusOf}
+use Rattle.toc.proofs.Accepted.{first-accepted, not-refused}
 use Rattle.c_words.specs.Contents.{tocStatus, tocAfter, noRoom, roomedReading, Listed}
 use Rattle.c_words.specs.Heading.{frontWords, backWords, frontAfter, arraysAfter, wordsAfter, recordRoom, noRecord, Buffers, judgedAll, HeadRead}
 use Rattle.c_words.proofs.Recording.{not-none}
@@ -54,7 +52,8 @@ Some n = n ≡ 0 → ⊥
 
 sized-some : (count : ℕ) (sizes : List ℕ) (c : Cursor) → Refuses Some (sizedAnswer count sizes c)
 unfolding sizedAnswer
-sized-some count sizes c = picked (Refuses Some) (clear c) (Table (tocOf count sizes c)) (Refused (c .fault)) (λ e. tt) (λ e. eqb-false (c .fault .number) 0 e)
+sized-some count sizes c =
+    picked (Refuses Some) (clear c) (Table (tocOf count sizes c)) (Refused (c .fault)) (λ e. tt) (λ e. eqb-false (c .fault .number) 0 e)
 
 abbrev Answers : Reading → Type 0
 Answers q = Refuses Some (q .answer)
@@ -65,7 +64,8 @@ first-some s f place t =
     let count : ℕ = gridOf f .sections in
     let out = read (tocRows count) s (start place) in
     picked Answers (eqb (judgedToc s (gridOf f) place t .number) 0) (firstRead count out) (refusedRead (judgedToc s (gridOf f) place t))
-    (λ e. of-both (Refuses Some) (eqb (out .value .permuted) 0) (sizedAnswer count (out .value .sizes) (out .next)) (OrderNeeded (out .next .at)) (sized-some count (out .value .sizes) (out .next)) tt)
+    (λ e. of-both (Refuses Some) (eqb (out .value .permuted) 0) (sizedAnswer count (out .value .sizes) (out .next)) (OrderNeeded (out .next .at))
+    (sized-some count (out .value .sizes) (out .next)) tt)
     (λ e. eqb-false (judgedToc s (gridOf f) place t .number) 0 e)
 
 second-some : (s : List ℕ) (f : Frame) (place : ℕ) (lent : List ℕ) (t : Tables) → Answers (secondReading s f place lent t)
@@ -73,15 +73,18 @@ unfolding secondReading secondRead refusedRead
 second-some s f place lent t =
     let count : ℕ = gridOf f .sections in
     let out = read (sizeRows count) s (start place) in
-    picked Answers (eqb (judgedOrder s (gridOf f) place lent t .number) 0) (secondRead count lent out) (refusedRead (judgedOrder s (gridOf f) place lent t))
+    picked Answers (eqb (judgedOrder s (gridOf f) place lent t .number) 0) (secondRead count lent out)
+    (refusedRead (judgedOrder s (gridOf f) place lent t))
     (λ e. sized-some count (out .value) (out .next))
     (λ e. eqb-false (judgedOrder s (gridOf f) place lent t .number) 0 e)
 
 room-some : (n : ℕ) (f : Frame) → Some (noRoom n f .number)
 unfolding noRoom
 room-some n f =
-    of-both (λ (r : Refusal). Some (r .number)) (ltb 16777216 n) (refusal 2 0) (pick (eqb (gridOf f .refusal .number) 0) (refusal 3 0) (gridOf f .refusal)) (λ e. omega arith)
-    (picked (λ (r : Refusal). Some (r .number)) (eqb (gridOf f .refusal .number) 0) (refusal 3 0) (gridOf f .refusal) (λ e z. omega arith) (λ e. eqb-false (gridOf f .refusal .number) 0 e))
+    of-both (λ (r : Refusal). Some (r .number)) (ltb 16777216 n) (refusal 2 0)
+    (pick (eqb (gridOf f .refusal .number) 0) (refusal 3 0) (gridOf f .refusal)) (λ e. omega arith)
+    (picked (λ (r : Refusal). Some (r .number)) (eqb (gridOf f .refusal .number) 0) (refusal 3 0) (gridOf f .refusal) (λ e z. omega arith)
+    (λ e. eqb-false (gridOf f .refusal .number) 0 e))
 
 table-by : (a : TocRead) → Told a → Refuses Some a → tocStatus a ≡ 0 → (toc : Toc) × (a ≡ Table toc)
 table-by (Table toc) k h e = (toc, refl)
@@ -216,10 +219,13 @@ module _ (facts : Facts) (s : List ℕ) (b : Buffers) (ok : judgedAll s facts b 
   unfolding judgedAll
   roomy =
       all-by (recordRoom (length (b .numbers)) (length (b .signs)) (length (b .reals)))
-      (judged (length s) facts (length (b .name)) (length (b .upsampling)) (length (b .blending))) (noRecord (length s) facts) (not-none (length s) facts) ok
+      (judged (length s) facts (length (b .name)) (length (b .upsampling)) (length (b .blending))) (noRecord (length s) facts)
+      (not-none (length s) facts) ok
 
   words-room : 51 ≤ length (b .numbers)
-  words-room = leb-true 51 (length (b .numbers)) (and-parts (leb 51 (length (b .numbers))) (leb 2 (length (b .signs)) && leb 22 (length (b .reals))) (roomy .0) .0)
+  words-room =
+      leb-true 51 (length (b .numbers))
+      (and-parts (leb 51 (length (b .numbers))) (leb 2 (length (b .signs)) && leb 22 (length (b .reals))) (roomy .0) .0)
 
   facts-good : badFacts facts ≡ false
   facts-good = judged-facts (length s) facts (length (b .name)) (length (b .upsampling)) (length (b .blending)) (roomy .1)
@@ -238,7 +244,8 @@ upsampling-small f e =
     let passes : Bool = leb 1 (f .«num_passes») && leb (f .«num_passes») 11 in
     let rest : Bool = (leb (f .«lf_level») 4 && leb (f .«group_size_shift») 3) && (leb (f .width) 1073760511 && leb (f .height) 1073760511) in
     one-of (eqb u 1) (eqb u 2) (eqb u 4) (eqb u 8) (u ≤ 8)
-    (λ t. omega (arith, eqb-true u 1 t)) (λ t. omega (arith, eqb-true u 2 t)) (λ t. omega (arith, eqb-true u 4 t)) (λ t. omega (arith, eqb-true u 8 t))
+    (λ t. omega (arith, eqb-true u 1 t)) (λ t. omega (arith, eqb-true u 2 t)) (λ t. omega (arith, eqb-true u 4 t))
+    (λ t. omega (arith, eqb-true u 8 t))
     (and-parts (upsamples u) passes (and-parts (upsamples u && passes) rest e .0) .0)
 
 -- `hingevale_read_frame_header` was asked with the facts and the bytes s, and lent six slices; its status is 0
@@ -298,7 +305,8 @@ first-lent s f place t status o z p i out out' l zero =
     let n : getD out' 0 0 ≡ x .count = count-word s f t q out told some status o z p i out' l zero in
     let a = first-accepted s f place t x (sym (d .answer)) .0 in
     let whole = first-whole s f place t x o z p i d in
-    reworded f x _ _ _ _ (q .sizes) (tables o z p i) n (start-word s f t q out told some status o z p i out' l zero) (total-word s f t q out told some status o z p i out' l zero)
+    reworded f x _ _ _ _ (q .sizes) (tables o z p i) n (start-word s f t q out told some status o z p i out' l zero)
+    (total-word s f t q out told some status o z p i out' l zero)
     (lent-whole f x (identity (getD out' 0 0)) (q .sizes) (tables o z p i) (a .frame) (a .count) (rw n whole))
 
 -- `hingevale_read_toc_with_order`, by its promise
@@ -313,11 +321,13 @@ second-lent s f place order t status o z p i out out' l zero =
     let x : Toc = toc s f t q out told some status o z p i out' l zero in
     let a = second-accepted s f place order t x (sym (d .answer)) .0 in
     let whole = second-whole s f place order t x o z p i d in
-    reworded f x _ _ _ _ (q .sizes) (tables o z p i) (count-word s f t q out told some status o z p i out' l zero) (start-word s f t q out told some status o z p i out' l zero)
+    reworded f x _ _ _ _ (q .sizes) (tables o z p i) (count-word s f t q out told some status o z p i out' l zero)
+    (start-word s f t q out told some status o z p i out' l zero)
     (total-word s f t q out told some status o z p i out' l zero)
     (lent-whole f x order (q .sizes) (tables o z p i) (a .frame) (a .count) whole)
 
--- and from the header's bytes on: `hingevale_read_frame_header` left `after`, its status is 0, and the section entry was asked with the six numbers of its words
+-- and from the header's bytes on: `hingevale_read_frame_header` left `after`, its status is 0, and the section entry was asked with six numbers of
+-- its words
 module _ (facts : Facts) (s : List ℕ) (word : ℕ) (before after : Buffers) (header : HeadRead facts s word before after) (accepted : word ≡ 0)
     (t : Tables) (status : ℕ) (o z p i out out' : List ℕ)
   where
@@ -328,16 +338,20 @@ module _ (facts : Facts) (s : List ℕ) (word : ℕ) (before after : Buffers) (h
     answer = said facts s word before after header accepted
 
     -- at the place of word 0
-    pub first-lent-frame : Listed (roomedReading s (frameBy left) out (firstReading s (frameBy left) (getD left 0 0) t)) t status o z p i out out' → status ≡ 0
-        → LentBytes facts s answer left (getD out' 0 0) (getD out' 1 0) (getD out' 2 0) (identity (getD out' 0 0)) (firstReading s (frameBy left) (getD left 0 0) t .sizes) (tables o z p i)
+    pub first-lent-frame : Listed (roomedReading s (frameBy left) out (firstReading s (frameBy left) (getD left 0 0) t)) t status o z p i out out'
+        → status ≡ 0
+        → LentBytes facts s answer left (getD out' 0 0) (getD out' 1 0) (getD out' 2 0) (identity (getD out' 0 0))
+        (firstReading s (frameBy left) (getD left 0 0) t .sizes) (tables o z p i)
     first-lent-frame l zero = record {
       frame = frame-left facts s word before after header accepted;
       whole = first-lent s (frameBy left) (getD left 0 0) t status o z p i out out' l zero;
     }
 
     -- at a place, as that behind the order
-    pub second-lent-frame : (place : ℕ) (order : List ℕ) → Listed (roomedReading s (frameBy left) out (secondReading s (frameBy left) place order t)) t status o z p i out out' → status ≡ 0
-        → LentBytes facts s answer left (getD out' 0 0) (getD out' 1 0) (getD out' 2 0) order (secondReading s (frameBy left) place order t .sizes) (tables o z p i)
+    pub second-lent-frame : (place : ℕ) (order : List ℕ)
+        → Listed (roomedReading s (frameBy left) out (secondReading s (frameBy left) place order t)) t status o z p i out out' → status ≡ 0
+        → LentBytes facts s answer left (getD out' 0 0) (getD out' 1 0) (getD out' 2 0) order (secondReading s (frameBy left) place order t .sizes)
+        (tables o z p i)
     second-lent-frame place order l zero = record {
       frame = frame-left facts s word before after header accepted;
       whole = second-lent s (frameBy left) place order t status o z p i out out' l zero;

@@ -1,10 +1,10 @@
 -- Refusals 8 and 11 never come out of the listing's job: no input's text is the line of such a refusal.
-use Prim.Native.Nat.{ℕ, _+_, _*_, _≤_}
+use Prim.Native.Nat.{ℕ, _+_, _≤_}
 use native.Mathlib.Omega.{arith}
 use mathlib.Core.Path.{_≡_, refl, sym, _∙_, ap}
-use mathlib.Core.Logic.{inl, inr}
+use mathlib.Core.Logic.{inl}
 use mathlib.Core.List.{List, [], _∷_, _++_}
-use mathlib.Core.Bool.{Bool, true, false}
+use mathlib.Core.Bool.{true}
 use lib.Dec.{eqb, leb, ltb}
 use lib.ListN.{length, getD, take, drop}
 use borrow.Author.Tests.{leb-true, eqb-true}
@@ -97,17 +97,20 @@ header-own s facts =
     (of-both (λ (r : Refusal). Own (r .number)) (noRoom facts 1071 256 1024) (refusal 3 0) none (inl (omega arith)) (inl (omega arith)))) in
     let both : Own (refusalOf before (stands facts s) .number) =
     of-both (λ (r : Refusal). Own (r .number)) (eqb (before .number) 0) (stands facts s .next .fault) before (fault-own facts s) few in
-    of-both (λ (a : HeaderAnswer). Own (a .refusal .number)) (eqb (refusalOf before (stands facts s) .number) 0) _ (refusedHeader (refusalOf before (stands facts s))) (inl (omega arith)) both
+    of-both (λ (a : HeaderAnswer). Own (a .refusal .number)) (eqb (refusalOf before (stands facts s) .number) 0) _
+    (refusedHeader (refusalOf before (stands facts s))) (inl (omega arith)) both
 
 -- ---- a property of all numbers of fields, and of the entry's with what an accepted header hands on
-module _ (P : ℕ → Type 0) (own : (n : ℕ) → Own n → P n) (entry : (facts : Facts) (s : List ℕ) (a : HeaderAnswer) → HandedOn facts s a → Allowed P s (frameOf (a .header)) (a .end)) where
+module _ (P : ℕ → Type 0) (own : (n : ℕ) → Own n → P n)
+    (entry : (facts : Facts) (s : List ℕ) (a : HeaderAnswer) → HandedOn facts s a → Allowed P s (frameOf (a .header)) (a .end)) where
   header-says : (s : List ℕ) (facts : Facts) → Says P (headerText s facts)
   unfolding headerText
   header-says s facts =
       split (eqb (headed s facts .refusal .number) 0)
       (λ t.
       rw t (sections-says P s (frameOf (headed s facts .header)) (headed s facts .end)
-      (entry facts s (headed s facts) (handed-on facts s (judged (length s) facts 1071 256 1024) (judged-facts (length s) facts 1071 256 1024) (eqb-true _ 0 t)))))
+      (entry facts s (headed s facts)
+      (handed-on facts s (judged (length s) facts 1071 256 1024) (judged-facts (length s) facts 1071 256 1024) (eqb-true _ 0 t)))))
       (λ t. rw t (refused-says P (headed s facts .refusal) (own (headed s facts .refusal .number) (header-own s facts))))
 
   job-says : (input : List ℕ) → Says P (jobText input)

@@ -1,5 +1,5 @@
 -- What the look-ups answer over the tables that an accepted call left: a section's sent number and back, its place, and a group's rectangle.
-use Prim.Native.Nat.{ℕ, _+_, _-_, _≤_, _<_}
+use Prim.Native.Nat.{ℕ, _+_, _≤_, _<_}
 use native.Mathlib.Omega.{arith}
 use mathlib.Core.Path.{_≡_, refl, sym, _∙_, ap}
 use mathlib.Core.List.{List}
@@ -12,10 +12,11 @@ use Rattle.bits.specs.declared.Refusal.{Refusal}
 use Rattle.bits.specs.Refusals.{pick, none}
 use Rattle.grid.specs.declared.Frame.{Frame}
 use Rattle.grid.specs.declared.Grid.{Grid}
+use Rattle.grid.specs.declared.Number.{Number}
 use Rattle.grid.specs.declared.Placed.{Placed}
 use Rattle.grid.specs.Sizes.{colorWidth, colorHeight, groupSide, count}
 use Rattle.grid.specs.Measured.{gridOf, laid}
-use Rattle.grid.specs.Groups.{has, judge, placed, clipped, cellOf, rectOf, rectFor}
+use Rattle.grid.specs.Groups.{told, has, placed, clipped, cellOf, rectOf, rectFor}
 use Rattle.grid.proofs.Accepted.{accepted}
 use Rattle.grid.proofs.Answers.{judge-known, judged}
 use Rattle.order.specs.declared.SectionNumber.{SectionNumber}
@@ -24,8 +25,6 @@ use Rattle.order.specs.declared.SectionAnswer.{SectionAnswer}
 use Rattle.order.specs.declared.SentAnswer.{SentAnswer}
 use Rattle.order.specs.Order.{isOrder}
 use Rattle.order.specs.Tables.{inverseOf, filled}
-use Rattle.order.specs.Sums.{sumTo}
-use Rattle.order.specs.Numbers.{sentOf, sectionOf}
 use Rattle.order.proofs.Entries.{and-both}
 use Rattle.order.proofs.Sums.{sum-ext}
 use Rattle.order.proofs.Reach.{order-length, order-below}
@@ -33,17 +32,17 @@ use Rattle.order.proofs.Inverse.{inverse-length, inverse-order}
 use Rattle.order.proofs.Tables.{filled-length}
 use Rattle.order.proofs.Numbers.{sent-answer, section-answer}
 use Rattle.sections.specs.declared.SectionPlace.{SectionPlace}
-use Rattle.sections.specs.Lookups.{placeOf, sentOfSection, sectionOfSent}
+use Rattle.sections.specs.Lookups.{sentOfSection, sectionOfSent}
 use Rattle.sections.proofs.Asking.{place-judged, place-yes, sent-yes, back-yes}
 use Rattle.toc.specs.declared.Toc.{Toc}
 use Rattle.toc.specs.declared.TocRead.the-variants.{Table}
 use Rattle.toc.specs.Sizes.{sentBefore}
-use Rattle.toc.specs.Reading.{Tables, tables, Reading, tablesOf, after, Done}
+use Rattle.toc.specs.Reading.{Tables, tables, Reading, tablesOf, Done}
 use Rattle.toc.proofs.Accepted.{Accepted}
-use Rattle.theorems.proofs.Orders.{order-sum, section-of-sent, sent-of-section}
+use Rattle.theorems.proofs.Orders.{order-sum}
 use Rattle.theorems.proofs.Spots.{sum-cut}
 use Rattle.theorems.proofs.Rectangles.{In, rect-answer}
-use Rattle.theorems.proofs.Demand.{Written, written-words}
+use Rattle.theorems.proofs.Demand.{written-words}
 use Rattle.demand.specs.Whole.{colourWidth, colourHeight, groupRect, placeIn, sentIn, sectionIn, numbered, sizesBefore, Inside, Covers, Starts}
 
 -- what the look-ups need of a frame, its table and the four lent tables
@@ -65,7 +64,8 @@ unfolding filled
 take-filled new table n e h = rw (take-all (length table) new (omega arith)) (take-at new (drop (length new) table) n e)
 
 -- as an accepted call leaves them
-module _ (s : List ℕ) (f : Frame) (t : Tables) (toc : Toc) (q : Reading) (a : Accepted s f t toc q) (o z p i : List ℕ) (d : Done q t (Table toc) o z p i) where
+module _ (s : List ℕ) (f : Frame) (t : Tables) (toc : Toc) (q : Reading) (a : Accepted s f t toc q) (o z p i : List ℕ)
+    (d : Done q t (Table toc) o z p i) where
   offsets-length : length o ≡ length (t .offsets)
   unfolding tablesOf
   offsets-length = ap length (d .offsets) ∙ ap (λ (x : Tables). length (x .offsets)) (a .filled) ∙ filled-length _ (t .offsets)
@@ -104,7 +104,8 @@ module _ (s : List ℕ) (f : Frame) (t : Tables) (toc : Toc) (q : Reading) (a : 
 
 module _ (f : Frame) (toc : Toc) (due sent : List ℕ) (t : Tables) (r : Ready f toc due sent t) where
   -- a section's sent number
-  pub sent-is : (j : SectionNumber) → j .0 < toc .count → _≡_ {A = SentAnswer} (sentIn f toc t j) (record { sent = record { 0 = getD due (j .0) 0 }; refusal = none })
+  pub sent-is : (j : SectionNumber) → j .0 < toc .count
+      → _≡_ {A = SentAnswer} (sentIn f toc t j) (record { sent = record { 0 = getD due (j .0) 0 }; refusal = none })
   sent-is j l =
       ap (λ (l : List ℕ). sentOfSection f l j) (r .order-words)
       ∙ sym (sent-yes f due (gridOf f) refl j _ (r .frame) (sym (rw (← r .count) (sent-answer (toc .count) due (r .few) (r .order) j l))))
@@ -126,7 +127,8 @@ module _ (f : Frame) (toc : Toc) (due sent : List ℕ) (t : Tables) (r : Ready f
       let z : ℕ = length (t .sizes) in
       let low : ltb (j .0) (g .sections) ≡ true = lt-ltb (j .0) (g .sections) (omega (arith, r .count)) in
       let room : (leb (g .sections) o && leb (g .sections) z) ≡ true =
-      and-both (le-leb (g .sections) o (omega (arith, r .count, r .offsets-room))) (le-leb (g .sections) z (omega (arith, r .count, r .sizes-room))) in
+      and-both (le-leb (g .sections) o (omega (arith, r .count, r .offsets-room)))
+      (le-leb (g .sections) z (omega (arith, r .count, r .sizes-room))) in
       let e = place-judged g o z (j .0) (r .frame) true (sym room) none refl (judge-known g (ltb (j .0) (g .sections)) none (r .frame) low refl) in
       sym (place-yes f (t .offsets) (t .sizes) j g refl none e refl)
 
@@ -163,13 +165,22 @@ module _ (f : Frame) (toc : Toc) (due sent : List ℕ) (t : Tables) (r : Ready f
 
 -- ---- rectangles, of a frame that is not refused
 module _ (f : Frame) (ok : gridOf f .refusal .number ≡ 0) where
-  pub width-is : colourWidth f .value ≡ colorWidth f
+  pub width-answer : _≡_ {A = Number} (colourWidth f) (record { value = colorWidth f; refusal = none })
   unfolding laid
-  width-is = ap (λ (g : Grid). g .width) (accepted f ok .grid)
+  width-answer = ap (λ (g : Grid). told g (g .width)) (accepted f ok .grid)
+
+  pub height-answer : _≡_ {A = Number} (colourHeight f) (record { value = colorHeight f; refusal = none })
+  unfolding laid
+  height-answer = ap (λ (g : Grid). told g (g .height)) (accepted f ok .grid)
+
+  pub width-is : colourWidth f .value ≡ colorWidth f
+  width-is = ap (λ (n : Number). n .value) width-answer
 
   pub height-is : colourHeight f .value ≡ colorHeight f
-  unfolding laid
-  height-is = ap (λ (g : Grid). g .height) (accepted f ok .grid)
+  height-is = ap (λ (n : Number). n .value) height-answer
+
+  pub some-sample : (0 < colorWidth f) × (0 < colorHeight f)
+  some-sample = (accepted f ok .width, accepted f ok .height)
 
   side-is : gridOf f .side ≡ groupSide f
   unfolding laid
@@ -193,7 +204,8 @@ module _ (f : Frame) (ok : gridOf f .refusal .number ≡ 0) where
       let at : Inside (rectOf (colorWidth f) (colorHeight f) (groupSide f) i) x y = rw (rect-is i (has-group i (c .answered))) at (c .inside) in
       record { left = at .left; right = at .right; top = at .top; bottom = at .bottom }
 
-  pub covers : (x y i : ℕ) → i < count (colorWidth f) (colorHeight f) (groupSide f) → In (rectOf (colorWidth f) (colorHeight f) (groupSide f) i) x y → Covers f x y i
+  pub covers : (x y i : ℕ) → i < count (colorWidth f) (colorHeight f) (groupSide f) → In (rectOf (colorWidth f) (colorHeight f) (groupSide f) i) x y
+      → Covers f x y i
   covers x y i l at = record {
     answered = ap (λ (p : Placed). p .refusal) (rect-is i l);
     inside = rw (rect-is i l) (record { left = at .left; right = at .right; top = at .top; bottom = at .bottom });

@@ -1,5 +1,5 @@
--- What a reading comes to, for all tables at once: accepted, each number is one that its field type may read, or its default; refused, the number of the
--- refusal is a field's own, at most 7 or 12.
+-- What a reading comes to, for all tables at once: accepted, each number is one that its field type may read, or its default; refused, the number of
+-- the refusal is a field's own, at most 7 or 12.
 use Prim.Native.Nat.{ℕ, zero, suc, _+_, _-_, _*_, _/_, _%_, _^_, _≤_, _<_}
 use native.Mathlib.Omega.{arith}
 use mathlib.Core.Path.{_≡_, refl, sym, _∙_, ap}
@@ -61,9 +61,11 @@ run-may (u32 d) s p =
     let n : ℕ = chosen d k .bits in
     let x : ℕ = bitsAt s (p + 2) n in
     let v : ℕ = (chosen d k .base + x) % 2 ^ 32 in
-    picked (λ (r : Field). clear (r .next) ≡ true → May (u32 d) (r .value)) (there s p 2) (run (takes n λ x. gives ((chosen d k .base + x) % 2 ^ 32)) s p (p + 2)) (cutAt s p (p + 2))
+    picked (λ (r : Field). clear (r .next) ≡ true → May (u32 d) (r .value)) (there s p 2)
+    (run (takes n λ x. gives ((chosen d k .base + x) % 2 ^ 32)) s p (p + 2)) (cutAt s p (p + 2))
     (λ e.
-    picked (λ (r : Field). clear (r .next) ≡ true → May (u32 d) (r .value)) (there s (p + 2) n) (run (gives v) s p (p + 2 + n)) (cutAt s p (p + 2 + n))
+    picked (λ (r : Field). clear (r .next) ≡ true → May (u32 d) (r .value)) (there s (p + 2) n) (run (gives v) s p (p + 2 + n))
+    (cutAt s p (p + 2 + n))
     (λ e h. chosen-by (eqb k 0) (eqb k 1) (eqb k 2) d x (bits-lt s (p + 2) n))
     (λ e h. absurd (false≢true h)))
     (λ e h. absurd (false≢true h))
@@ -77,7 +79,8 @@ run-may (skip n) s p = λ h. tt
 field-may : (s : List ℕ) (on : Bool) (k : Codec) (d : ℕ) (c : Cursor) → clear (field s on k d c .next) ≡ true → Reading k d (field s on k d c .value)
 unfolding field
 field-may s on k d c =
-    picked (λ (r : Field). clear (r .next) ≡ true → Reading k d (r .value)) (on && clear c) (run (steps k (c .at)) s (c .at) (c .at)) (record { value = d; next = c })
+    picked (λ (r : Field). clear (r .next) ≡ true → Reading k d (r .value)) (on && clear c) (run (steps k (c .at)) s (c .at) (c .at))
+    (record { value = d; next = c })
     (λ e h. inl (run-may k s (c .at) h))
     (λ e h. inr refl)
 
@@ -107,7 +110,8 @@ stops (cases d n) p =
     λ k x. of-both Stops (leb n ((chosen d k .base + x) % 2 ^ 32)) (refuses 5) (gives ((chosen d k .base + x) % 2 ^ 32)) (inl (omega arith)) tt
 stops u64 p =
     λ k.
-    of-both Stops (eqb k 0) (gives 0) (pick (eqb k 1) (takes 4 λ x. gives (1 + x)) (pick (eqb k 2) (takes 8 λ x. gives (17 + x)) (takes 12 λ x. more 6 x))) tt
+    of-both Stops (eqb k 0) (gives 0)
+    (pick (eqb k 1) (takes 4 λ x. gives (1 + x)) (pick (eqb k 2) (takes 8 λ x. gives (17 + x)) (takes 12 λ x. more 6 x))) tt
     (of-both Stops (eqb k 1) (takes 4 λ x. gives (1 + x)) (pick (eqb k 2) (takes 8 λ x. gives (17 + x)) (takes 12 λ x. more 6 x)) (λ x. tt)
     (of-both Stops (eqb k 2) (takes 8 λ x. gives (17 + x)) (takes 12 λ x. more 6 x) (λ x. tt) (λ x. stops-more 6 x)))
 stops f16 p = λ h. of-both Stops (eqb (exponent h) 31) (refuses 6) (gives h) (inl (omega arith)) tt
@@ -122,14 +126,16 @@ unfolding run cut
 run-own (gives v) h s p q = inl (omega arith)
 run-own (refuses n) h s p q = h
 run-own (takes n f) h s p q =
-    of-both Owned (there s q n) (run (f (bitsAt s q n)) s p (q + n)) (cutAt s p (q + n)) (run-own (f (bitsAt s q n)) (h (bitsAt s q n)) s p (q + n)) (inl (omega arith))
+    of-both Owned (there s q n) (run (f (bitsAt s q n)) s p (q + n)) (cutAt s p (q + n)) (run-own (f (bitsAt s q n)) (h (bitsAt s q n)) s p (q + n))
+    (inl (omega arith))
 run-own (passes n t) h s p q =
     of-both Owned (leb (q + n) (bitCount s)) (run t s p (q + n)) (cutAt s p (q + n)) (run-own t h s p (q + n)) (inl (omega arith))
 
 field-own : (s : List ℕ) (on : Bool) (k : Codec) (d : ℕ) (c : Cursor) → Own (c .fault .number) → Owned (field s on k d c)
 unfolding field
 field-own s on k d c h =
-    of-both Owned (on && clear c) (run (steps k (c .at)) s (c .at) (c .at)) (record { value = d; next = c }) (run-own (steps k (c .at)) (stops k (c .at)) s (c .at) (c .at)) h
+    of-both Owned (on && clear c) (run (steps k (c .at)) s (c .at) (c .at)) (record { value = d; next = c })
+    (run-own (steps k (c .at)) (stops k (c .at)) s (c .at) (c .at)) h
 
 -- ---- tables
 
@@ -145,7 +151,8 @@ before-clear t s c true e h = refl
 before-clear t s c false e h = absurd (false≢true (sym e ∙ ap clear (sym (fault-stays t s c e)) ∙ h))
 
 -- accepted, what is handed on has the property
-pub read-has : {R A : Type 0} (P : A → Type 0) (t : Table R A) → Reads P t → (s : List ℕ) (c : Cursor) → clear (read t s c .next) ≡ true → P (read t s c .value)
+pub read-has : {R A : Type 0} (P : A → Type 0) (t : Table R A) → Reads P t → (s : List ℕ) (c : Cursor) → clear (read t s c .next) ≡ true
+    → P (read t s c .value)
 unfolding read Reads
 read-has P (ends a) r s c h = r
 read-has P (row on k d v rest) r s c h =
@@ -157,10 +164,12 @@ read-has P (fails bad number back rest) r s c h = read-has P rest (r .1) s (fail
 failed-own : (bad : Bool) (number back : ℕ) (c : Cursor) → number ≡ 7 → Own (c .fault .number) → Own (failed bad number back c .fault .number)
 unfolding failed
 failed-own bad number back c e h =
-    of-both (λ (r : Cursor). Own (r .fault .number)) (bad && clear c) (record { at = c .at; fault = refusal number (c .at - back) }) c (inl (omega arith)) h
+    of-both (λ (r : Cursor). Own (r .fault .number)) (bad && clear c) (record { at = c .at; fault = refusal number (c .at - back) }) c
+    (inl (omega arith)) h
 
 -- whether a row's number may be read is asked only where nothing was refused, so rows are told apart by the fault
-own-by : {R A : Type 0} (P : A → Type 0) (on : Bool) (k : Codec) (d : ℕ) (v : R → ℕ) (rest : ℕ → Table R A) → Reads P (row on k d v rest) → (s : List ℕ) (c : Cursor) (b : Bool)
+own-by : {R A : Type 0} (P : A → Type 0) (on : Bool) (k : Codec) (d : ℕ) (v : R → ℕ) (rest : ℕ → Table R A) → Reads P (row on k d v rest)
+    → (s : List ℕ) (c : Cursor) (b : Bool)
     → clear (field s on k d c .next) ≡ b → Own (field s on k d c .next .fault .number)
     → (Reads P (rest (field s on k d c .value)) → Own (read (rest (field s on k d c .value)) s (field s on k d c .next) .next .fault .number))
     → Own (read (rest (field s on k d c .value)) s (field s on k d c .next) .next .fault .number)
@@ -169,7 +178,8 @@ own-by P on k d v rest r s c true e h go = go (r (field s on k d c .value) (fiel
 own-by P on k d v rest r s c false e h go = rw (fault-stays (rest (field s on k d c .value)) s (field s on k d c .next) e) h
 
 -- refused, the number is a field's own
-pub read-own : {R A : Type 0} (P : A → Type 0) (t : Table R A) → Reads P t → (s : List ℕ) (c : Cursor) → Own (c .fault .number) → Own (read t s c .next .fault .number)
+pub read-own : {R A : Type 0} (P : A → Type 0) (t : Table R A) → Reads P t → (s : List ℕ) (c : Cursor) → Own (c .fault .number)
+    → Own (read t s c .next .fault .number)
 unfolding read Reads
 read-own P (ends a) r s c h = h
 read-own P (row on k d v rest) r s c h =
@@ -179,7 +189,8 @@ read-own P (row on k d v rest) r s c h =
 read-own P (fails bad number back rest) r s c h = read-own P rest (r .1) s (failed bad number back c) (failed-own bad number back c (r .0) h)
 
 -- tables one after another, inside each other, and repeated
-pub reads-bind : {R A B : Type 0} (Q : A → Type 0) (P : B → Type 0) (t : Table R A) (f : A → Table R B) → Reads Q t → ((a : A) → Q a → Reads P (f a)) → Reads P (bind t f)
+pub reads-bind : {R A B : Type 0} (Q : A → Type 0) (P : B → Type 0) (t : Table R A) (f : A → Table R B) → Reads Q t → ((a : A) → Q a → Reads P (f a))
+    → Reads P (bind t f)
 unfolding bind Reads
 reads-bind Q P (ends a) f r h = h a r
 reads-bind Q P (row on k d v rest) f r h = λ n m. reads-bind Q P (rest n) f (r n m) h
@@ -191,7 +202,8 @@ reads-within P g (ends a) r = r
 reads-within P g (row on k d v rest) r = λ n m. reads-within P g (rest n) (r n m)
 reads-within P g (fails bad number back rest) r = (r .0, reads-within P g rest (r .1))
 
-pub reads-inside : {R S A B : Type 0} (Q : A → Type 0) (P : B → Type 0) (g : R → S) (t : Table S A) (f : A → Table R B) → Reads Q t → ((a : A) → Q a → Reads P (f a))
+pub reads-inside : {R S A B : Type 0} (Q : A → Type 0) (P : B → Type 0) (g : R → S) (t : Table S A) (f : A → Table R B) → Reads Q t
+    → ((a : A) → Q a → Reads P (f a))
     → Reads P (bind (within g t) f)
 reads-inside Q P g t f r h = reads-bind Q P (within g t) f (reads-within Q g t r) h
 
@@ -202,7 +214,8 @@ Any a = Unit {0}
 pub reads-times : {R A : Type 0} (count i : ℕ) (f : ℕ → Table R A) → ((j : ℕ) → Reads Any (f j)) → Reads Any (times count i f)
 unfolding times Reads
 reads-times zero i f h = tt
-reads-times (suc count) i f h = reads-bind Any Any (f i) _ (h i) (λ a x. reads-bind Any Any (times count (suc i) f) _ (reads-times count (suc i) f h) (λ rest y. tt))
+reads-times (suc count) i f h =
+    reads-bind Any Any (f i) _ (h i) (λ a x. reads-bind Any Any (times count (suc i) f) _ (reads-times count (suc i) f h) (λ rest y. tt))
 
 pub reads-pick : {R A : Type 0} (P : A → Type 0) (b : Bool) (x y : Table R A) → Reads P x → Reads P y → Reads P (pick b x y)
 reads-pick P b x y h k = of-both (Reads P) b x y h k

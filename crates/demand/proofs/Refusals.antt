@@ -1,17 +1,17 @@
 -- Two refusals never follow on an accepted header: its frame is never refused with 8, and its end never with 11, at either section entry.
 use Prim.Native.Nat.{ℕ, _*_, _≤_}
 use native.Mathlib.Omega.{arith}
-use mathlib.Core.Path.{_≡_, refl}
+use mathlib.Core.Path.{_≡_}
 use mathlib.Core.Logic.{inl, inr}
 use mathlib.Core.List.{List}
-use mathlib.Core.Bool.{Bool, true, false}
+use mathlib.Core.Bool.{Bool, true}
 use lib.Dec.{eqb, leb, ltb}
 use lib.ListN.{length}
 use borrow.Author.Tests.{le-leb}
 use Rattle.bits.specs.declared.Refusal.{Refusal}
 use Rattle.bits.specs.declared.Cursor.{Cursor}
 use Rattle.bits.specs.Refusals.{pick, refusal, none, start, clear}
-use Rattle.bits.specs.Table.{Out, read}
+use Rattle.bits.specs.Table.{read}
 use Rattle.bits.proofs.Numbered.{of-both}
 use Rattle.grid.specs.declared.Frame.{Frame}
 use Rattle.grid.specs.declared.Grid.{Grid}
@@ -61,8 +61,10 @@ module _ (P : ℕ → Type 0) (s : List ℕ) (f : Frame) (place : ℕ) (ok : All
   judged-has room =
       let inside : Refusal = pick (leb place (8 * length s)) none (refusal 11 0) in
       let lent : Refusal = pick room inside (refusal 3 0) in
-      of-both Has (ltb 16777216 (length s)) (refusal 2 0) (pick (eqb (gridOf f .refusal .number) 0) lent (gridOf f .refusal)) (ok .own 2 (inl (omega arith)))
-      (of-both Has (eqb (gridOf f .refusal .number) 0) lent (gridOf f .refusal) (of-both Has room inside (refusal 3 0) (ok .inside) (ok .own 3 (inl (omega arith)))) (ok .frame))
+      of-both Has (ltb 16777216 (length s)) (refusal 2 0) (pick (eqb (gridOf f .refusal .number) 0) lent (gridOf f .refusal))
+      (ok .own 2 (inl (omega arith)))
+      (of-both Has (eqb (gridOf f .refusal .number) 0) lent (gridOf f .refusal)
+      (of-both Has room inside (refusal 3 0) (ok .inside) (ok .own 3 (inl (omega arith)))) (ok .frame))
 
   checked-has : (count : ℕ) (l : List ℕ) → Has (checked count l)
   unfolding checked
@@ -73,7 +75,8 @@ module _ (P : ℕ → Type 0) (s : List ℕ) (f : Frame) (place : ℕ) (ok : All
   order-has : (lent : List ℕ) (t : Tables) → Has (judgedOrder s (gridOf f) place lent t)
   unfolding judgedOrder
   order-has lent t =
-      of-both Has (eqb (judged s (gridOf f) place t .number) 0) (checked (gridOf f .sections) lent) (judged s (gridOf f) place t) (checked-has (gridOf f .sections) lent)
+      of-both Has (eqb (judged s (gridOf f) place t .number) 0) (checked (gridOf f .sections) lent) (judged s (gridOf f) place t)
+      (checked-has (gridOf f .sections) lent)
       (judged-has (roomy (gridOf f .sections) t))
 
   sized-has : (count : ℕ) (sizes : List ℕ) (c : Cursor) → Own (c .fault .number) → Refuses P (sizedAnswer count sizes c)
@@ -99,7 +102,8 @@ module _ (P : ℕ → Type 0) (s : List ℕ) (f : Frame) (place : ℕ) (ok : All
   second-refuses lent t =
       let count : ℕ = gridOf f .sections in
       let out = read (sizeRows count) s (start place) in
-      of-both Answers (eqb (judgedOrder s (gridOf f) place lent t .number) 0) (secondRead count lent out) (refusedRead (judgedOrder s (gridOf f) place lent t))
+      of-both Answers (eqb (judgedOrder s (gridOf f) place lent t .number) 0) (secondRead count lent out)
+      (refusedRead (judgedOrder s (gridOf f) place lent t))
       (sized-has count (out .value) (out .next) (read-own Any (sizeRows count) (sizes-reads count) s (start place) (inl (omega arith))))
       (order-has lent t)
 
@@ -161,12 +165,15 @@ module _ (facts : Facts) (s : List ℕ) (a : HeaderAnswer) (h : HandedOn facts s
   pub first-never-8 : (place : ℕ) (t : Tables) (r : Refusal) → firstReading s (frameOf (a .header)) place t .answer ≡ Refused r → r .number ≡ 8 → ⊥
   first-never-8 place t = refuses-by Not8 _ (first-refuses Not8 s (frameOf (a .header)) place (allowed-8 s (frameOf (a .header)) place (h .good)) t)
 
-  pub second-never-8 : (place : ℕ) (lent : List ℕ) (t : Tables) (r : Refusal) → secondReading s (frameOf (a .header)) place lent t .answer ≡ Refused r → r .number ≡ 8 → ⊥
-  second-never-8 place lent t = refuses-by Not8 _ (second-refuses Not8 s (frameOf (a .header)) place (allowed-8 s (frameOf (a .header)) place (h .good)) lent t)
+  pub second-never-8 : (place : ℕ) (lent : List ℕ) (t : Tables) (r : Refusal) → secondReading s (frameOf (a .header)) place lent t .answer ≡ Refused r
+      → r .number ≡ 8 → ⊥
+  second-never-8 place lent t =
+      refuses-by Not8 _ (second-refuses Not8 s (frameOf (a .header)) place (allowed-8 s (frameOf (a .header)) place (h .good)) lent t)
 
   -- the header's end, of any frame, is never refused with 11
   pub first-never-11 : (f : Frame) (t : Tables) (r : Refusal) → firstReading s f (a .end) t .answer ≡ Refused r → r .number ≡ 11 → ⊥
   first-never-11 f t = refuses-by Not11 _ (first-refuses Not11 s f (a .end) (allowed-11 s f (a .end) (h .within)) t)
 
-  pub second-never-11 : (f : Frame) (lent : List ℕ) (t : Tables) (r : Refusal) → secondReading s f (a .end) lent t .answer ≡ Refused r → r .number ≡ 11 → ⊥
+  pub second-never-11 : (f : Frame) (lent : List ℕ) (t : Tables) (r : Refusal) → secondReading s f (a .end) lent t .answer ≡ Refused r
+      → r .number ≡ 11 → ⊥
   second-never-11 f lent t = refuses-by Not11 _ (second-refuses Not11 s f (a .end) (allowed-11 s f (a .end) (h .within)) lent t)

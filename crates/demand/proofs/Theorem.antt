@@ -1,19 +1,15 @@
 -- The proof of demand 3, and the theorem: whatever the bytes, the frame, the place and the lent tables, if an entry answers a table, all of it holds.
-use Prim.Native.Nat.{ℕ, _+_, _≤_, _<_}
+use Prim.Native.Nat.{ℕ, _<_}
 use native.Mathlib.Omega.{arith}
 use native.Mathlib.Decide.{ℕ-discrete}
-use mathlib.Core.Path.{_≡_, refl, sym, _∙_, ap}
+use mathlib.Core.Path.{_≡_, sym, _∙_, ap}
 use mathlib.Core.List.{List}
 use mathlib.Core.Logic.{by-cases}
 use lib.ListN.{getD}
 use Rattle.bits.specs.Refusals.{none}
 use Rattle.grid.specs.declared.Frame.{Frame}
-use Rattle.grid.specs.declared.Grid.{Grid}
-use Rattle.grid.specs.Measured.{gridOf}
 use Rattle.grid.specs.Sizes.{up, colorWidth, colorHeight, groupSide}
 use Rattle.grid.specs.Groups.{indexAt}
-use Rattle.order.specs.declared.SectionNumber.{SectionNumber}
-use Rattle.order.specs.declared.SentNumber.{SentNumber}
 use Rattle.order.specs.declared.SectionAnswer.{SectionAnswer}
 use Rattle.order.specs.declared.SentAnswer.{SentAnswer}
 use Rattle.order.specs.Tables.{identity, inverseOf}
@@ -24,17 +20,15 @@ use Rattle.sections.specs.declared.TocGroupKind.the-variants.{All, GroupPass}
 use Rattle.sections.specs.declared.KindAnswer.{KindAnswer}
 use Rattle.sections.specs.declared.SectionPlace.{SectionPlace}
 use Rattle.sections.specs.Kinds.{kindOf}
-use Rattle.sections.specs.Lookups.{sectionOfSample}
 use Rattle.toc.specs.declared.Toc.{Toc}
 use Rattle.toc.specs.declared.TocRead.the-variants.{Table}
 use Rattle.toc.specs.Reading.{Tables, tables, Reading, firstReading, secondReading, Done}
 use Rattle.toc.proofs.Accepted.{first-accepted}
 use Rattle.theorems.proofs.Orders.{inverse-back}
-use Rattle.theorems.proofs.Rectangles.{In, Exactly}
 use Rattle.theorems.proofs.Tables.{second-accepted}
 use Rattle.theorems.proofs.Demand.{Holds, Demand, first-written, second-written}
-use Rattle.demand.specs.Whole.{colourWidth, colourHeight, found, placeIn, sentIn, sectionIn, numbered, ExactlyOne, ThereAndBack, Lies, OneSection, Covers, OneRectangle, Found, Whole}
-use Rattle.demand.proofs.Lookups.{Ready, ready, sent-is, section-is, place-is, starts, width-is, height-is, covered, covers, clipped-in}
+use Rattle.demand.specs.Whole.{colourWidth, colourHeight, found, placeIn, sentIn, sectionIn, numbered, ThereAndBack, Lies, OneSection, Covers, OneRectangle, Found, Whole}
+use Rattle.demand.proofs.Lookups.{Ready, ready, sent-is, section-is, place-is, starts, width-answer, height-answer, some-sample, width-is, height-is, covered, covers, clipped-in}
 
 -- All is no GroupPass
 not-all : (k : TocGroupKind) (pass group : ℕ) → k ≡ GroupPass pass group → k ≡ All → ⊥
@@ -108,6 +102,9 @@ module _ (f : Frame) (toc : Toc) (due sent : List ℕ) (t : Tables) (r : Ready f
   samples =
       let e = d .one-sample-one-rectangle in
       record {
+        width = width-answer f (r .frame);
+        height = height-answer f (r .frame);
+        some = some-sample f (r .frame);
         each-sample = λ x y hx hy.
             let has = covered-by x y (omega (arith, width-is f (r .frame))) (omega (arith, height-is f (r .frame))) in
             record {
@@ -155,19 +152,23 @@ due-order : (f : Frame) (toc : Toc) (l m sent : List ℕ) (t : Tables) → l ≡
 due-order f toc l m sent t e x = rw (← e) x
 
 -- the first entry, by its promise: it answered a table, and left o, z, p, i in the four lent tables. The order that is due is the identity.
-pub first-whole : (s : List ℕ) (f : Frame) (place : ℕ) (t : Tables) (toc : Toc) (o z p i : List ℕ) → Done (firstReading s f place t) t (Table toc) o z p i
+pub first-whole : (s : List ℕ) (f : Frame) (place : ℕ) (t : Tables) (toc : Toc) (o z p i : List ℕ)
+    → Done (firstReading s f place t) t (Table toc) o z p i
     → Whole f toc (identity (toc .count)) (firstReading s f place t .sizes) (tables o z p i)
 first-whole s f place t toc o z p i d =
     let q : Reading = firstReading s f place t in
     let ok = first-accepted s f place t toc (sym (d .answer)) in
-    whole f toc (identity (toc .count)) (q .sizes) (tables o z p i) (due-order f toc (q .order) (identity (toc .count)) (q .sizes) (tables o z p i) (ok .1) (ready s f t toc q (ok .0) o z p i d))
+    whole f toc (identity (toc .count)) (q .sizes) (tables o z p i)
+    (due-order f toc (q .order) (identity (toc .count)) (q .sizes) (tables o z p i) (ok .1) (ready s f t toc q (ok .0) o z p i d))
     (first-written s f place t toc o z p i d)
 
 -- the second entry. The order that is due is the lent one.
-pub second-whole : (s : List ℕ) (f : Frame) (place : ℕ) (order : List ℕ) (t : Tables) (toc : Toc) (o z p i : List ℕ) → Done (secondReading s f place order t) t (Table toc) o z p i
+pub second-whole : (s : List ℕ) (f : Frame) (place : ℕ) (order : List ℕ) (t : Tables) (toc : Toc) (o z p i : List ℕ)
+    → Done (secondReading s f place order t) t (Table toc) o z p i
     → Whole f toc order (secondReading s f place order t .sizes) (tables o z p i)
 second-whole s f place order t toc o z p i d =
     let q : Reading = secondReading s f place order t in
     let ok = second-accepted s f place order t toc (sym (d .answer)) in
-    whole f toc order (q .sizes) (tables o z p i) (due-order f toc (q .order) order (q .sizes) (tables o z p i) (ok .1) (ready s f t toc q (ok .0) o z p i d))
+    whole f toc order (q .sizes) (tables o z p i)
+    (due-order f toc (q .order) order (q .sizes) (tables o z p i) (ok .1) (ready s f t toc q (ok .0) o z p i d))
     (second-written s f place order t toc o z p i d)

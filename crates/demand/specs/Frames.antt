@@ -21,8 +21,8 @@ pub record HandedOn (facts : Facts) (s : List ℕ) (a : HeaderAnswer) : Type 0 w
   pub good : goodRecord (frameOf (a .header)) ≡ true
   pub within : a .end ≤ 8 * length s
 
--- demand 3 from bytes to bytes: of the bytes and facts, the header that was answered, the table that was answered with the header's frame, the order that
--- is due, the sizes as they were sent, and the four lent tables
+-- demand 3 from bytes to bytes: of the bytes and facts, the header that was answered, the table that was answered with the header's frame, the order
+-- that is due, the sizes as they were sent, and the four lent tables
 pub record BytesToBytes (facts : Facts) (s : List ℕ) (a : HeaderAnswer) (toc : Toc) (due sent : List ℕ) (t : Tables) : Type 0 where
   pub handed-on : HandedOn facts s a
   pub whole : Whole (frameOf (a .header)) toc due sent t

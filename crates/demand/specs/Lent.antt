@@ -29,11 +29,14 @@ pub record FrameBy (facts : Facts) (s : List ℕ) (a : HeaderAnswer) (w : List �
   pub handed-on : HandedOn facts s a
   pub frame : frameBy w ≡ frameOf (a .header)
   pub place : getD w 0 0 ≡ a .end
-  pub small : (getD w 35 0 < 2 ^ 32) × (getD w 36 0 < 2 ^ 32) × (getD w 6 0 < 2 ^ 32) × (getD w 33 0 < 2 ^ 32) × (getD w 7 0 < 2 ^ 32) × (getD w 10 0 < 2 ^ 32)
+  pub small : (getD w 35 0 < 2 ^ 32) × (getD w 36 0 < 2 ^ 32) × (getD w 6 0 < 2 ^ 32) × (getD w 33 0 < 2 ^ 32) × (getD w 7 0 < 2 ^ 32)
+      × (getD w 10 0 < 2 ^ 32)
 
--- A C function that promises `Given a` leaves these words: whatever slice with room for them it is lent, its status is 0, and they stand in front of the slice.
+-- A C function that promises `Given a` leaves these words: whatever slice with room for them it is lent, its status is 0, and they stand in front of
+-- the slice.
 pub record Leaves (a : Answer) (words : List ℕ) : Type 0 where
-  pub call : (before after : List ℕ) (status : ℕ) → length words ≤ length before → Given a before status after → (status ≡ 0) × (take (length words) after ≡ words)
+  pub call : (before after : List ℕ) (status : ℕ) → length words ≤ length before → Given a before status after
+      → (status ≡ 0) × (take (length words) after ≡ words)
 
 -- A byte lies in section j of count, by the words of its place.
 pub record LiesBy (count : ℕ) (offset size : ℕ → ℕ) (b j : ℕ) : Type 0 where
@@ -49,8 +52,8 @@ pub record CoversBy (groups : ℕ) (left top width height : ℕ → ℕ) (x y gr
   pub from-top : top group ≤ y
   pub to-bottom : y < top group + height group
 
--- The demand: of a frame, the three words that a section entry left (count, data start, total), the order that is due, the sizes as they were sent, and
--- the four lent tables.
+-- The demand: of a frame, the three words that a section entry left (count, data start, total), the order that is due, the sizes as they were sent,
+-- and the four lent tables.
 pub record LentWhole (f : Frame) (count start total : ℕ) (due sizesSent : List ℕ) (t : Tables) : Type 0 where
   -- ---- the words that the look-ups leave, whatever they are lent
 
@@ -76,11 +79,13 @@ pub record LentWhole (f : Frame) (count start total : ℕ) (due sizesSent : List
   pub width : ℕ → ℕ
   pub height : ℕ → ℕ
   pub group-rect : (group : ℕ) → group < groups → Leaves (placedAnswer (groupRect f group)) (left group ∷ top group ∷ width group ∷ height group ∷ [])
-  pub no-group : (group : ℕ) → groups ≤ group → (before after : List ℕ) (status : ℕ) → 4 ≤ length before → Given (placedAnswer (groupRect f group)) before status after
+  pub no-group : (group : ℕ) → groups ≤ group → (before after : List ℕ) (status : ℕ) → 4 ≤ length before
+      → Given (placedAnswer (groupRect f group)) before status after
       → status ≡ 14
   -- `hingevale_section_of_sample`, for a sample inside and a pass of the frame: a section of the table
   pub found : ℕ → ℕ → ℕ → ℕ
-  pub section-of-sample : (x y pass : ℕ) → x < across → y < down → pass < f .«num_passes» → Leaves (sectionAnswer (sectionOfSample f x y pass)) (found x y pass ∷ [])
+  pub section-of-sample : (x y pass : ℕ) → x < across → y < down → pass < f .«num_passes»
+      → Leaves (sectionAnswer (sectionOfSample f x y pass)) (found x y pass ∷ [])
   pub found-below : (x y pass : ℕ) → x < across → y < down → pass < f .«num_passes» → found x y pass < count
   -- ---- "sent order to section order and back returns the number begun with, from either side"
   pub from-section : (j : ℕ) → j < count → section (sent j) ≡ j
@@ -101,13 +106,14 @@ pub record LentWhole (f : Frame) (count start total : ℕ) (due sizesSent : List
   pub sections-start : (j : ℕ) → j < count → offset j ≡ start + sumTo count (λ i. pick (ltb (sent i) (sent j)) (size i) 0)
   pub sections-start-as-sent : (j : ℕ) → j < count → offset j ≡ start + sentBefore sizesSent (sent j)
   pub sizes : (j : ℕ) → j < count → size j ≡ getD sizesSent (sent j) 0
-  -- the section found is the sample's own, by `hingevale_kind_of`: All where there is one section, else GroupPass of the pass and the group that holds it
+  -- the section found is the sample's own, by `hingevale_kind_of`: All where there is one section, else GroupPass of the pass and the group that
+  -- holds it
   pub all : (x y pass : ℕ) → x < across → y < down → pass < f .«num_passes» → count ≡ 1
       → Leaves (kindAnswer (kindOf f (sectionNumber (found x y pass)))) (0 ∷ 0 ∷ 0 ∷ [])
   pub group : (x y pass : ℕ) → x < across → y < down → pass < f .«num_passes» → (count ≡ 1 → ⊥)
       → (i : ℕ) → CoversBy groups left top width height x y i → Leaves (kindAnswer (kindOf f (sectionNumber (found x y pass)))) (4 ∷ pass ∷ i ∷ [])
 
 -- From the bytes to lent memory: the words of the header are its frame's and its end, and with these the demand holds.
-pub record LentBytes (facts : Facts) (s : List ℕ) (a : HeaderAnswer) (w : List ℕ) (count start total : ℕ) (due sizesSent : List ℕ) (t : Tables) : Type 0 where
+pub record LentBytes (facts : Facts) (s : List ℕ) (a : HeaderAnswer) (w : List ℕ) (count from total : ℕ) (due sent : List ℕ) (t : Tables) : Type 0 where
   pub frame : FrameBy facts s a w
-  pub whole : LentWhole (frameBy w) count start total due sizesSent t
+  pub whole : LentWhole (frameBy w) count from total due sent t

@@ -1,6 +1,7 @@
--- Demand 3: "For every accepted frame: sent order to section order and back returns the number begun with, from either side; each byte of the data span
--- lies in exactly one section; each colour sample in exactly one clipped group rectangle; the section found for a sample and any pass starts at the data
--- start plus the sizes of all sections sent before it." Said of what the public functions answer, over the four lent tables as a section entry left them.
+-- Demand 3: "For every accepted frame: sent order to section order and back returns the number begun with, from either side; each byte of the data
+-- span lies in exactly one section; each colour sample in exactly one clipped group rectangle; the section found for a sample and any pass starts at
+-- the data start plus the sizes of all sections sent before it." Said of what the public functions answer, over the four lent tables as a section
+-- entry left them.
 use Prim.Native.Nat.{ℕ, _+_, _≤_, _<_}
 use mathlib.Core.Path.{_≡_}
 use mathlib.Core.List.{List}
@@ -11,6 +12,7 @@ use Rattle.grid.specs.declared.Frame.{Frame}
 use Rattle.grid.specs.declared.Number.{Number}
 use Rattle.grid.specs.declared.Rect.{Rect}
 use Rattle.grid.specs.declared.Placed.{Placed}
+use Rattle.grid.specs.Sizes.{colorWidth, colorHeight}
 use Rattle.grid.specs.Measured.{gridOf}
 use Rattle.grid.specs.Groups.{told, rectFor}
 use Rattle.order.specs.declared.SectionNumber.{SectionNumber}
@@ -112,6 +114,10 @@ pub record Covers (f : Frame) (x y group : ℕ) : Type 0 where
   pub inside : Inside (groupRect f group .rect) x y
 
 pub record OneRectangle (f : Frame) : Type 0 where
+  -- the size in colour samples is answered, as the frame's size divided by the upsampling and by 8^lf_level; it is not empty
+  pub width : _≡_ {A = Number} (colourWidth f) (record { value = colorWidth f; refusal = none })
+  pub height : _≡_ {A = Number} (colourHeight f) (record { value = colorHeight f; refusal = none })
+  pub some : (0 < colorWidth f) × (0 < colorHeight f)
   pub each-sample : (x y : ℕ) → x < colourWidth f .value → y < colourHeight f .value → ExactlyOne (Covers f x y)
   -- no rectangle holds another sample: it is clipped
   pub no-other : (x y group : ℕ) → Covers f x y group → (x < colourWidth f .value) × (y < colourHeight f .value)
