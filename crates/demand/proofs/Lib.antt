@@ -7,3 +7,4 @@ pub mod Refusals
 pub mod Listings
 pub mod Lent
 pub mod LentEntries
+pub mod Example
