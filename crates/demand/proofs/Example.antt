@@ -1,5 +1,5 @@
--- The theorem's conditions are met: the frame of P4, whose header is one bit and whose table has five sections, and of P5, where an order is lent. The
--- header and the answers are computed; what follows is the theorem's.
+-- The theorem's conditions can be met: by the frame of P4, whose header is one bit and whose table has five sections, and by P5, where an order is
+-- lent. The header and the answers are computed; what follows is the theorem's.
 use Prim.Native.Nat.{ℕ}
 use native.Mathlib.Omega.{arith}
 use mathlib.Core.Path.{_≡_, refl, sym}
@@ -60,7 +60,8 @@ a = answered (facts 300 100) before h
 abbrev held : List ℕ → List ℕ → List ℕ
 held new buffer = kept before h new buffer
 
-asked : Headed (facts 300 100) listed a name (held (h .value .name) name) [] (held (h .value .upsampling) []) [] (held (words (h .value .blending)) [])
+asked :
+    Headed (facts 300 100) listed a name (held (h .value .name) name) [] (held (h .value .upsampling) []) [] (held (words (h .value .blending)) [])
 asked = record { answer = refl; named = refl; upsampled = refl; blended = refl }
 
 -- a frame of 300 by 100 samples with so many passes
@@ -97,7 +98,9 @@ first-table = rw (header-read .1, header-read .2) (tables-read .0)
 second-table : second (frameOf (a .header)) .answer ≡ Table toc
 second-table = rw (header-read .1) (tables-read .1)
 
-pub first-met : BytesToBytes (facts 300 100) listed a toc (identity 5) (first (frameOf (a .header)) (a .end) .sizes) (after (first (frameOf (a .header)) (a .end)) five)
+pub first-met :
+    BytesToBytes (facts 300 100) listed a toc (identity 5) (first (frameOf (a .header)) (a .end) .sizes)
+    (after (first (frameOf (a .header)) (a .end)) five)
 first-met =
     first-frame (facts 300 100) listed a name _ [] _ [] _ asked (header-read .0) five toc _ _ _ _
     (record { answer = sym first-table; offsets = refl; sizes = refl; order = refl; inverse = refl })

@@ -113,7 +113,8 @@ pub record LentWhole (f : Frame) (count start total : ℕ) (due sizesSent : List
   pub group : (x y pass : ℕ) → x < across → y < down → pass < f .«num_passes» → (count ≡ 1 → ⊥)
       → (i : ℕ) → CoversBy groups left top width height x y i → Leaves (kindAnswer (kindOf f (sectionNumber (found x y pass)))) (4 ∷ pass ∷ i ∷ [])
 
--- From the bytes to lent memory: the words of the header are its frame's and its end, and with these the demand holds.
-pub record LentBytes (facts : Facts) (s : List ℕ) (a : HeaderAnswer) (w : List ℕ) (count from total : ℕ) (due sent : List ℕ) (t : Tables) : Type 0 where
+-- From the bytes to lent memory: the words w of the header are its frame's and its end, and with these the demand holds, of count n, data start b and
+-- total l.
+pub record LentBytes (facts : Facts) (s : List ℕ) (a : HeaderAnswer) (w : List ℕ) (n b l : ℕ) (due sent : List ℕ) (t : Tables) : Type 0 where
   pub frame : FrameBy facts s a w
-  pub whole : LentWhole (frameBy w) count from total due sent t
+  pub whole : LentWhole (frameBy w) n b l due sent t
