@@ -1,0 +1,358 @@
+-- The entries of C: where their status is 0, what the words say that they left. With these the demand holds of the look-ups' words.
+use Prim.Native.Nat.{ℕ, _-_, _%_, _≤_, _<_}
+use native.Mathlib.Omega.{arith}
+use mathlib.Core.Path.{_≡_, refl, sym, _∙_, ap}
+use mathlib.Core.Logic.{inl}
+use mathlib.Core.List.{List, [], _∷_}
+use mathlib.Core.Bool.{Bool, true, false, _&&_, _||_}
+use lib.Dec.{eqb, leb, ltb}
+use lib.ListN.{length, getD, set, length-set}
+use lib.Seq.{sets, length-sets, getD-set-same, getD-set-other}
+use borrow.Author.Tests.{eqb-true, eqb-false, leb-true, ltb-false}
+use Rattle.fill.proofs.Filling.{sets-inside, sets-outside}
+use Rattle.bits.specs.declared.Refusal.{Refusal}
+use Rattle.bits.specs.declared.Cursor.{Cursor}
+use Rattle.bits.specs.Refusals.{pick, refusal, start, clear}
+use Rattle.bits.specs.Table.{read}
+use Rattle.bits.proofs.Reading.{picked}
+use Rattle.bits.proofs.Numbered.{of-both}
+use Rattle.grid.specs.declared.Frame.{Frame}
+use Rattle.grid.specs.Measured.{upsamples, goodRecord, gridOf}
+use Rattle.grid.proofs.Accepted.{Good, good, and-parts}
+use Rattle.header.specs.declared.Facts.{Facts}
+use Rattle.header.specs.declared.entry.HeaderAnswer.{HeaderAnswer}
+use Rattle.header.specs.Entry.{badFacts, judged, stands, answered}
+use Rattle.header.specs.Questions.{frameOf}
+use Rattle.order.specs.Tables.{identity}
+use Rattle.order.proofs.Entries.{split}
+use Rattle.toc.specs.declared.Toc.{Toc}
+use Rattle.toc.specs.declared.TocRead.{TocRead}
+use Rattle.toc.specs.declared.TocRead.the-variants.{Table, OrderNeeded, Refused}
+use Rattle.toc.specs.Sizes.{sizeRows, tocRows}
+use Rattle.toc.specs.Reading.{Tables, tables, judged as judgedToc, judgedOrder, Reading, tocOf, sizedAnswer, firstRead, secondRead, refusedRead, firstReading, secondReading, Done}
+use Rattle.toc.proofs.Accepted.{first-accepted, not-refused}
+use Rattle.c_words.specs.Contents.{tocStatus, tocAfter, noRoom, roomedReading, Listed}
+use Rattle.c_words.specs.Heading.{frontWords, backWords, frontAfter, arraysAfter, wordsAfter, recordRoom, noRecord, Buffers, judgedAll, HeadRead}
+use Rattle.c_words.proofs.Recording.{not-none}
+use Rattle.theorems.proofs.Tables.{second-accepted}
+use Rattle.theorems.proofs.TocRefusals.{Told}
+use Rattle.theorems.proofs.Status.{none-told, first-word, second-word, head-told, words-written}
+use Rattle.demand.specs.Frames.{HandedOn}
+use Rattle.demand.specs.Lent.{frameBy, FrameBy, LentWhole, LentBytes}
+use Rattle.demand.proofs.Theorem.{first-whole, second-whole}
+use Rattle.demand.proofs.Headers.{handed-on, unrefused, judged-facts}
+use Rattle.demand.proofs.Refusals.{Refuses}
+use Rattle.demand.proofs.Lent.{lent-whole}
+
+-- ---- a section entry's status of 0 is a table
+
+-- a refusal has a number
+abbrev Some : ℕ → Type 0
+Some n = n ≡ 0 → ⊥
+
+sized-some : (count : ℕ) (sizes : List ℕ) (c : Cursor) → Refuses Some (sizedAnswer count sizes c)
+unfolding sizedAnswer
+sized-some count sizes c =
+    picked (Refuses Some) (clear c) (Table (tocOf count sizes c)) (Refused (c .fault)) (λ e. tt) (λ e. eqb-false (c .fault .number) 0 e)
+
+abbrev Answers : Reading → Type 0
+Answers q = Refuses Some (q .answer)
+
+first-some : (s : List ℕ) (f : Frame) (place : ℕ) (t : Tables) → Answers (firstReading s f place t)
+unfolding firstReading firstRead refusedRead
+first-some s f place t =
+    let count : ℕ = gridOf f .sections in
+    let out = read (tocRows count) s (start place) in
+    picked Answers (eqb (judgedToc s (gridOf f) place t .number) 0) (firstRead count out) (refusedRead (judgedToc s (gridOf f) place t))
+    (λ e. of-both (Refuses Some) (eqb (out .value .permuted) 0) (sizedAnswer count (out .value .sizes) (out .next)) (OrderNeeded (out .next .at))
+    (sized-some count (out .value .sizes) (out .next)) tt)
+    (λ e. eqb-false (judgedToc s (gridOf f) place t .number) 0 e)
+
+second-some : (s : List ℕ) (f : Frame) (place : ℕ) (lent : List ℕ) (t : Tables) → Answers (secondReading s f place lent t)
+unfolding secondReading secondRead refusedRead
+second-some s f place lent t =
+    let count : ℕ = gridOf f .sections in
+    let out = read (sizeRows count) s (start place) in
+    picked Answers (eqb (judgedOrder s (gridOf f) place lent t .number) 0) (secondRead count lent out)
+    (refusedRead (judgedOrder s (gridOf f) place lent t))
+    (λ e. sized-some count (out .value) (out .next))
+    (λ e. eqb-false (judgedOrder s (gridOf f) place lent t .number) 0 e)
+
+room-some : (n : ℕ) (f : Frame) → Some (noRoom n f .number)
+unfolding noRoom
+room-some n f =
+    of-both (λ (r : Refusal). Some (r .number)) (ltb 16777216 n) (refusal 2 0)
+    (pick (eqb (gridOf f .refusal .number) 0) (refusal 3 0) (gridOf f .refusal)) (λ e. omega arith)
+    (picked (λ (r : Refusal). Some (r .number)) (eqb (gridOf f .refusal .number) 0) (refusal 3 0) (gridOf f .refusal) (λ e z. omega arith)
+    (λ e. eqb-false (gridOf f .refusal .number) 0 e))
+
+table-by : (a : TocRead) → Told a → Refuses Some a → tocStatus a ≡ 0 → (toc : Toc) × (a ≡ Table toc)
+table-by (Table toc) k h e = (toc, refl)
+table-by (OrderNeeded place) k h e = absurd (omega arith)
+table-by (Refused r) k h e = absurd (h (none-told r (k .0) e))
+
+-- with what the slice of three words asks
+module _ (s : List ℕ) (f : Frame) (t : Tables) (q : Reading) (out : List ℕ) (told : Told (roomedReading s f out q .answer)) (some : Answers q) where
+  roomed-some : Answers (roomedReading s f out q)
+  unfolding roomedReading refusedRead
+  roomed-some = of-both Answers (ltb (length out) 3) (refusedRead (noRoom (length s) f)) q (room-some (length s) f) some
+
+  module _ (status : ℕ) (o z p i out' : List ℕ) (l : Listed (roomedReading s f out q) t status o z p i out out') (zero : status ≡ 0) where
+    tabled : (toc : Toc) × (roomedReading s f out q .answer ≡ Table toc)
+    tabled = table-by (roomedReading s f out q .answer) told roomed-some (sym (l .status) ∙ zero)
+
+    pub toc : Toc
+    toc = tabled .0
+
+    roomed : (3 ≤ length out) × (roomedReading s f out q ≡ q)
+    unfolding roomedReading refusedRead
+    roomed =
+        split (ltb (length out) 3)
+        (λ e. absurd (not-refused (noRoom (length s) f) (tabled .0) (roomedReading s f out q .answer) (rw e) (tabled .1)))
+        (λ e. (ltb-false (length out) 3 e, rw e))
+
+    -- the entry's promise, as the function without words has it
+    pub done : Done q t (Table toc) o z p i
+    unfolding toc
+    done =
+        let e = roomed .1 in
+        record {
+          answer = sym (tabled .1) ∙ ap (λ (r : Reading). r .answer) e;
+          offsets = rw e at (l .offsets);
+          sizes = rw e at (l .sizes);
+          order = rw e at (l .order);
+          inverse = rw e at (l .inverse);
+        }
+
+    out-is : out' ≡ sets out 0 (toc .count ∷ toc .bookmark ∷ toc .«total_byte_size» ∷ [])
+    unfolding toc
+    out-is = l .words ∙ ap (λ (a : TocRead). tocAfter a out) (tabled .1)
+
+    -- the three words
+    word-is : (k : ℕ) → k < 3 → getD out' k 0 ≡ getD (toc .count ∷ toc .bookmark ∷ toc .«total_byte_size» ∷ []) (k - 0) 0
+    word-is k h =
+        ap (λ (l : List ℕ). getD l k 0) out-is
+        ∙ sets-inside 0 (toc .count ∷ toc .bookmark ∷ toc .«total_byte_size» ∷ []) out 0 k (omega arith) (omega arith) (omega (arith, roomed .0))
+
+    pub count-word : getD out' 0 0 ≡ toc .count
+    count-word = word-is 0 (omega arith)
+
+    pub start-word : getD out' 1 0 ≡ toc .bookmark
+    start-word = word-is 1 (omega arith)
+
+    pub total-word : getD out' 2 0 ≡ toc .«total_byte_size»
+    total-word = word-is 2 (omega arith)
+
+-- ---- the header's words
+
+module _ (a : HeaderAnswer) (out : List ℕ) (room : 51 ≤ length out) where
+  abbrev front : List ℕ
+  front = frontAfter a out
+
+  abbrev middle : List ℕ
+  middle = arraysAfter (a .header .«jpeg_upsampling») (a .header .passes) front
+
+  front-length : length front ≡ length out
+  unfolding frontAfter
+  front-length = simp (length-sets, length-set)
+
+  middle-length : length middle ≡ length out
+  unfolding arraysAfter
+  middle-length = simp length-sets front-length
+
+  -- words 33 to 50
+  back-word : (k : ℕ) → 33 ≤ k → k < 51 → getD (wordsAfter a out) k 0 ≡ getD (backWords (a .header)) (k - 33) 0
+  unfolding wordsAfter backWords
+  back-word k low high = sets-inside 0 (backWords (a .header)) middle 33 k low (omega arith) (omega (arith, middle-length))
+
+  -- words before 12
+  early-word : (k : ℕ) → k < 12 → getD (wordsAfter a out) k 0 ≡ getD front k 0
+  unfolding wordsAfter arraysAfter
+  early-word k h =
+      let p = a .header .passes in
+      let l0 : List ℕ = sets front 12 (a .header .«jpeg_upsampling») in
+      let l1 : List ℕ = sets l0 15 (p .shift) in
+      let l2 : List ℕ = sets l1 25 (p .downsample) in
+      sets-outside 0 (backWords (a .header)) middle 33 k (inl (omega arith))
+      ∙ sets-outside 0 (p .«last_pass») l2 29 k (inl (omega arith))
+      ∙ sets-outside 0 (p .downsample) l1 25 k (inl (omega arith))
+      ∙ sets-outside 0 (p .shift) l0 15 k (inl (omega arith))
+      ∙ sets-outside 0 (a .header .«jpeg_upsampling») front 12 k (inl (omega arith))
+
+  -- words 2 to 11
+  front-word : (k : ℕ) → 2 ≤ k → k < 12 → getD (wordsAfter a out) k 0 ≡ getD (frontWords (a .header)) (k - 2) 0
+  unfolding frontAfter frontWords
+  front-word k low high =
+      early-word k high
+      ∙ sets-inside 0 (frontWords (a .header)) (set (set out 0 (a .end)) 1 (a .header .flags .0)) 2 k low (omega arith)
+      (omega (arith, length-set (set out 0 (a .end)) 1 (a .header .flags .0), length-set out 0 (a .end)))
+
+  -- word 0
+  end-word : getD (wordsAfter a out) 0 0 ≡ a .end
+  unfolding frontAfter
+  end-word =
+      early-word 0 (omega arith)
+      ∙ sets-outside 0 (frontWords (a .header)) (set (set out 0 (a .end)) 1 (a .header .flags .0)) 2 0 (inl (omega arith))
+      ∙ getD-set-other (set out 0 (a .end)) 1 0 (a .header .flags .0) 0 (λ e. omega arith)
+      ∙ getD-set-same out 0 (a .end) 0 (omega arith)
+
+  frame-words : frameBy (wordsAfter a out) ≡ frameOf (a .header)
+  unfolding frontWords backWords
+  frame-words =
+      rw (
+        back-word 35 (omega arith) (omega arith),
+        back-word 36 (omega arith) (omega arith),
+        front-word 6 (omega arith) (omega arith),
+        back-word 33 (omega arith) (omega arith),
+        front-word 7 (omega arith) (omega arith),
+        front-word 10 (omega arith) (omega arith),
+      )
+
+-- nothing is refused before the header is read: the facts are within the bounds, and there is room for its words
+all-by : (b : Bool) (before late : Refusal) → eqb (late .number) 0 ≡ false → pick b before late .number ≡ 0 → (b ≡ true) × (before .number ≡ 0)
+all-by true before late e h = (refl, h)
+all-by false before late e h = absurd (eqb-false (late .number) 0 e h)
+
+module _ (facts : Facts) (s : List ℕ) (b : Buffers) (ok : judgedAll s facts b .number ≡ 0) where
+  roomy : (recordRoom (length (b .numbers)) (length (b .signs)) (length (b .reals)) ≡ true)
+      × (judged (length s) facts (length (b .name)) (length (b .upsampling)) (length (b .blending)) .number ≡ 0)
+  unfolding judgedAll
+  roomy =
+      all-by (recordRoom (length (b .numbers)) (length (b .signs)) (length (b .reals)))
+      (judged (length s) facts (length (b .name)) (length (b .upsampling)) (length (b .blending))) (noRecord (length s) facts)
+      (not-none (length s) facts) ok
+
+  words-room : 51 ≤ length (b .numbers)
+  words-room =
+      leb-true 51 (length (b .numbers))
+      (and-parts (leb 51 (length (b .numbers))) (leb 2 (length (b .signs)) && leb 22 (length (b .reals))) (roomy .0) .0)
+
+  facts-good : badFacts facts ≡ false
+  facts-good = judged-facts (length s) facts (length (b .name)) (length (b .upsampling)) (length (b .blending)) (roomy .1)
+
+-- a good record's numbers, the upsampling too, are small
+one-of : (a b c d : Bool) (P : Type 0) → (a ≡ true → P) → (b ≡ true → P) → (c ≡ true → P) → (d ≡ true → P) → ((a || b) || (c || d)) ≡ true → P
+one-of true b c d P x y z w e = x refl
+one-of false true c d P x y z w e = y refl
+one-of false false true d P x y z w e = z refl
+one-of false false false d P x y z w e = w e
+
+upsampling-small : (f : Frame) → goodRecord f ≡ true → f .upsampling ≤ 8
+unfolding goodRecord
+upsampling-small f e =
+    let u : ℕ = f .upsampling in
+    let passes : Bool = leb 1 (f .«num_passes») && leb (f .«num_passes») 11 in
+    let rest : Bool = (leb (f .«lf_level») 4 && leb (f .«group_size_shift») 3) && (leb (f .width) 1073760511 && leb (f .height) 1073760511) in
+    one-of (eqb u 1) (eqb u 2) (eqb u 4) (eqb u 8) (u ≤ 8)
+    (λ t. omega (arith, eqb-true u 1 t)) (λ t. omega (arith, eqb-true u 2 t)) (λ t. omega (arith, eqb-true u 4 t))
+    (λ t. omega (arith, eqb-true u 8 t))
+    (and-parts (upsamples u) passes (and-parts (upsamples u && passes) rest e .0) .0)
+
+-- `hingevale_read_frame_header` was asked with the facts and the bytes s, and lent six slices; its status is 0
+module _ (facts : Facts) (s : List ℕ) (word : ℕ) (before after : Buffers) (header : HeadRead facts s word before after) (accepted : word ≡ 0) where
+  -- what it read
+  abbrev pub said : HeaderAnswer
+  said = answered facts (judgedAll s facts before) (stands facts s)
+
+  said-none : said .refusal .number ≡ 0
+  said-none = sym (head-told facts s word before after header .0) ∙ ap (λ (n : ℕ). n % 256) accepted
+
+  judged-none : judgedAll s facts before .number ≡ 0
+  judged-none = unrefused facts s (judgedAll s facts before) (facts-good facts s before) said-none .0
+
+  handed : HandedOn facts s said
+  handed = handed-on facts s (judgedAll s facts before) (facts-good facts s before) said-none
+
+  -- its words hand on the header's frame and its end
+  pub frame-left : FrameBy facts s said (after .numbers)
+  frame-left =
+      let w = words-written facts s word before after header accepted in
+      let room = words-room facts s before judged-none in
+      let frame : frameBy (wordsAfter said (before .numbers)) ≡ frameOf (said .header) = frame-words said (before .numbers) room in
+      let g : Good (frameOf (said .header)) = good (frameOf (said .header)) (handed .good) in
+      rw w
+      (record {
+        handed-on = handed;
+        frame = frame;
+        place = end-word said (before .numbers) room;
+        small = (
+          omega (arith, ap (λ (f : Frame). f .width) frame, g .width),
+          omega (arith, ap (λ (f : Frame). f .height) frame, g .height),
+          omega (arith, ap (λ (f : Frame). f .upsampling) frame, upsampling-small (frameOf (said .header)) (handed .good)),
+          omega (arith, ap (λ (f : Frame). f .«lf_level») frame, g .level),
+          omega (arith, ap (λ (f : Frame). f .«group_size_shift») frame, g .shift),
+          omega (arith, ap (λ (f : Frame). f .«num_passes») frame, g .passes),
+        );
+      })
+
+-- ---- the theorem over lent memory: whatever the bytes, the six numbers of a frame, the place and the lent slices, if a section entry's status is 0
+
+-- words for the numbers of a table
+reworded : (f : Frame) (toc : Toc) (n b l : ℕ) (due sent : List ℕ) (t : Tables) → n ≡ toc .count → b ≡ toc .bookmark → l ≡ toc .«total_byte_size»
+    → LentWhole f (toc .count) (toc .bookmark) (toc .«total_byte_size») due sent t → LentWhole f n b l due sent t
+reworded f toc n b l due sent t en eb el x = rw (en, eb, el) x
+
+-- `hingevale_read_toc`, by its promise
+pub first-lent : (s : List ℕ) (f : Frame) (place : ℕ) (t : Tables) (status : ℕ) (o z p i out out' : List ℕ)
+    → Listed (roomedReading s f out (firstReading s f place t)) t status o z p i out out' → status ≡ 0
+    → LentWhole f (getD out' 0 0) (getD out' 1 0) (getD out' 2 0) (identity (getD out' 0 0)) (firstReading s f place t .sizes) (tables o z p i)
+first-lent s f place t status o z p i out out' l zero =
+    let q : Reading = firstReading s f place t in
+    let told = first-word s f place t out in
+    let some = first-some s f place t in
+    let d = done s f t q out told some status o z p i out' l zero in
+    let x : Toc = toc s f t q out told some status o z p i out' l zero in
+    let n : getD out' 0 0 ≡ x .count = count-word s f t q out told some status o z p i out' l zero in
+    let a = first-accepted s f place t x (sym (d .answer)) .0 in
+    let whole = first-whole s f place t x o z p i d in
+    reworded f x _ _ _ _ (q .sizes) (tables o z p i) n (start-word s f t q out told some status o z p i out' l zero)
+    (total-word s f t q out told some status o z p i out' l zero)
+    (lent-whole f x (identity (getD out' 0 0)) (q .sizes) (tables o z p i) (a .frame) (a .count) (rw n whole))
+
+-- `hingevale_read_toc_with_order`, by its promise
+pub second-lent : (s : List ℕ) (f : Frame) (place : ℕ) (order : List ℕ) (t : Tables) (status : ℕ) (o z p i out out' : List ℕ)
+    → Listed (roomedReading s f out (secondReading s f place order t)) t status o z p i out out' → status ≡ 0
+    → LentWhole f (getD out' 0 0) (getD out' 1 0) (getD out' 2 0) order (secondReading s f place order t .sizes) (tables o z p i)
+second-lent s f place order t status o z p i out out' l zero =
+    let q : Reading = secondReading s f place order t in
+    let told = second-word s f place order t out in
+    let some = second-some s f place order t in
+    let d = done s f t q out told some status o z p i out' l zero in
+    let x : Toc = toc s f t q out told some status o z p i out' l zero in
+    let a = second-accepted s f place order t x (sym (d .answer)) .0 in
+    let whole = second-whole s f place order t x o z p i d in
+    reworded f x _ _ _ _ (q .sizes) (tables o z p i) (count-word s f t q out told some status o z p i out' l zero)
+    (start-word s f t q out told some status o z p i out' l zero)
+    (total-word s f t q out told some status o z p i out' l zero)
+    (lent-whole f x order (q .sizes) (tables o z p i) (a .frame) (a .count) whole)
+
+-- and from the header's bytes on: `hingevale_read_frame_header` left `after`, its status is 0, and the section entry was asked with six numbers of
+-- its words
+module _ (facts : Facts) (s : List ℕ) (word : ℕ) (before after : Buffers) (header : HeadRead facts s word before after) (accepted : word ≡ 0)
+    (t : Tables) (status : ℕ) (o z p i out out' : List ℕ)
+  where
+    abbrev left : List ℕ
+    left = after .numbers
+
+    abbrev answer : HeaderAnswer
+    answer = said facts s word before after header accepted
+
+    -- at the place of word 0
+    pub first-lent-frame : Listed (roomedReading s (frameBy left) out (firstReading s (frameBy left) (getD left 0 0) t)) t status o z p i out out'
+        → status ≡ 0
+        → LentBytes facts s answer left (getD out' 0 0) (getD out' 1 0) (getD out' 2 0) (identity (getD out' 0 0))
+        (firstReading s (frameBy left) (getD left 0 0) t .sizes) (tables o z p i)
+    first-lent-frame l zero = record {
+      frame = frame-left facts s word before after header accepted;
+      whole = first-lent s (frameBy left) (getD left 0 0) t status o z p i out out' l zero;
+    }
+
+    -- at a place, as that behind the order
+    pub second-lent-frame : (place : ℕ) (order : List ℕ)
+        → Listed (roomedReading s (frameBy left) out (secondReading s (frameBy left) place order t)) t status o z p i out out' → status ≡ 0
+        → LentBytes facts s answer left (getD out' 0 0) (getD out' 1 0) (getD out' 2 0) order (secondReading s (frameBy left) place order t .sizes)
+        (tables o z p i)
+    second-lent-frame place order l zero = record {
+      frame = frame-left facts s word before after header accepted;
+      whole = second-lent s (frameBy left) place order t status o z p i out out' l zero;
+    }

@@ -1,0 +1,10 @@
+pub mod Lookups
+pub mod Theorem
+pub mod Ranges
+pub mod Headers
+pub mod Frames
+pub mod Refusals
+pub mod Listings
+pub mod Lent
+pub mod LentEntries
+pub mod Example
