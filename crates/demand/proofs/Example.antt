@@ -2,7 +2,7 @@
 -- lent. The header and the answers are computed; what follows is the theorem's.
 use Prim.Native.Nat.{ℕ}
 use native.Mathlib.Omega.{arith}
-use mathlib.Core.Path.{_≡_, refl, sym}
+use mathlib.Core.Path.{_≡_, refl, sym, ap}
 use mathlib.Core.List.{List, [], _∷_}
 use lib.ListN.{length, getD, take, replicate}
 use Rattle.bits.specs.declared.Refusal.{Refusal}
@@ -20,16 +20,16 @@ use Rattle.grid.specs.declared.Frame.{Frame}
 use Rattle.grid.specs.Sizes.{sectionsOf, up, sample}
 use Rattle.grid.specs.Measured.{gridOf, goodRecord, laid, refusedGrid}
 use Rattle.grid.specs.Groups.{judge}
-use Rattle.header.specs.declared.entry.HeaderAnswer.{HeaderAnswer}
 use Rattle.header.specs.Header.{Header, header, front, back}
 use Rattle.header.specs.Opening.{opening}
 use Rattle.header.specs.Shape.{passes, scales, placement}
 use Rattle.header.specs.Arrays.{element}
 use Rattle.header.specs.Blending.{coversSide, coversImage, sourceDecider, hasSource, blending, words}
 use Rattle.header.specs.Closing.{closing}
-use Rattle.header.specs.Entry.{judged, stands, refusedHeader, answered, kept, Headed}
-use Rattle.header.specs.Questions.{frameHeader, frameOf}
-use Rattle.order.specs.Order.{isOrder, checked, allBelow, distinct, has as occurs}
+use Rattle.header.specs.declared.entry.HeaderAnswer.{HeaderAnswer}
+use Rattle.header.specs.Entry.{judged, stands, refusedHeader, answered, kept, Headed, HeaderTold, told}
+use Rattle.header.specs.Record.{headerOf, frameOf}
+use Rattle.order.specs.Order.{isOrder, checked, allBelow, distinct}
 use Rattle.order.specs.Sums.{sumTo}
 use Rattle.order.specs.Tables.{tabulate, indexOf, inverseOf, identity, filled}
 use Rattle.order.specs.Numbers.{sentOf, entryAt, lookedUp}
@@ -38,9 +38,10 @@ use Rattle.sections.specs.Lookups.{sampleKind, hasSample, sectionOfSample, plac
 use Rattle.toc.specs.declared.Toc.{Toc}
 use Rattle.toc.specs.declared.TocRead.the-variants.{Table}
 use Rattle.toc.specs.Sizes.{tocRows, sizeRows, sentBefore, offsetsBy, sizesBy}
-use Rattle.toc.specs.Reading.{Tables, tables, Reading, roomFor, judgedBy, judgedOrder, tocOf, sizedAnswer, firstRead, secondRead, refusedRead, firstReading, secondReading, tablesOf, written, after}
+use Rattle.toc.specs.Reading.{Tables, tables, Reading, roomFor, judgedBy, judgedOrder, tocOf, sizedAnswer, firstRead, secondRead, refusedRead, firstReading, secondReading, tablesOf, written, after, tocNumbers}
 use Rattle.edges.specs.Cases.{facts, listed, five}
 use Rattle.demand.specs.Frames.{BytesToBytes}
+use Rattle.theorems.proofs.Once.{headerBy}
 use Rattle.demand.proofs.Frames.{first-frame, second-frame}
 
 -- a name buffer of 1,071 bytes, and no extra channels
@@ -53,15 +54,22 @@ before = judged (length listed) (facts 300 100) (length name) 0 0
 abbrev h : Out Header
 h = stands (facts 300 100) listed
 
--- what the header entry answers, and what a lent buffer holds afterwards
-abbrev a : HeaderAnswer
-a = answered (facts 300 100) before h
+-- what is due of the header entry, an answer with those numbers, and what a lent buffer holds afterwards
+abbrev due : HeaderTold
+due = answered (facts 300 100) before h
+
+abbrev r : HeaderAnswer
+r = record { header = headerBy (due .header); end = due .end; refusal = due .refusal }
+
+abbrev a : HeaderTold
+a = told r
 
 abbrev held : List ℕ → List ℕ → List ℕ
 held new buffer = kept before h new buffer
 
 asked :
-    Headed (facts 300 100) listed a name (held (h .value .name) name) [] (held (h .value .upsampling) []) [] (held (words (h .value .blending)) [])
+    Headed (facts 300 100) listed r name (held (h .value .name) name) [] (held (h .value .upsampling) []) [] (held (words (h .value .blending)) [])
+unfolding read bind within times failed field more run cut bitsAt extensions lengths restoration gabor channel gaborOf epf sharp scale sigma float floats unbalanced header front back opening passes scales placement element coversSide coversImage sourceDecider hasSource blending closing headerOf judged refusedHeader answered
 asked = record { answer = refl; named = refl; upsampled = refl; blended = refl }
 
 -- a frame of 300 by 100 samples with so many passes
@@ -70,7 +78,7 @@ sized n = record { width = 300; height = 100; upsampling = 1; «lf_level» = 0; 
 
 -- the header is accepted, its frame has one pass, and it ends behind its one bit
 header-read : (a .refusal .number ≡ 0) × (frameOf (a .header) ≡ sized 1) × (a .end ≡ 1)
-unfolding read bind within times failed field more run cut bitsAt extensions lengths restoration gabor channel gaborOf epf sharp scale sigma float floats unbalanced header front back opening passes scales placement element coversSide coversImage sourceDecider hasSource blending closing frameHeader judged refusedHeader answered
+unfolding read bind within times failed field more run cut bitsAt extensions lengths restoration gabor channel gaborOf epf sharp scale sigma float floats unbalanced header front back opening passes scales placement element coversSide coversImage sourceDecider hasSource blending closing headerOf judged refusedHeader answered
 header-read = (refl, refl, refl)
 
 -- a table of five sections is answered there, and one with an order at the place of the padding
@@ -102,13 +110,13 @@ pub first-met :
     BytesToBytes (facts 300 100) listed a toc (identity 5) (first (frameOf (a .header)) (a .end) .sizes)
     (after (first (frameOf (a .header)) (a .end)) five)
 first-met =
-    first-frame (facts 300 100) listed a name _ [] _ [] _ asked (header-read .0) five toc _ _ _ _
-    (record { answer = sym first-table; offsets = refl; sizes = refl; order = refl; inverse = refl })
+    first-frame (facts 300 100) listed r name _ [] _ [] _ asked (header-read .0) five toc _ _ _ _
+    (record { answer = ap tocNumbers (sym first-table); offsets = refl; sizes = refl; order = refl; inverse = refl })
 
 pub second-met : BytesToBytes (facts 300 100) listed a toc order (second (frameOf (a .header)) .sizes) (after (second (frameOf (a .header))) five)
 second-met =
-    second-frame (facts 300 100) listed a name _ [] _ [] _ asked (header-read .0) 8 order five toc _ _ _ _
-    (record { answer = sym second-table; offsets = refl; sizes = refl; order = refl; inverse = refl })
+    second-frame (facts 300 100) listed r name _ [] _ [] _ asked (header-read .0) 8 order five toc _ _ _ _
+    (record { answer = ap tocNumbers (sym second-table); offsets = refl; sizes = refl; order = refl; inverse = refl })
 
 -- ---- what wrong programs would answer there: each differs from what the theorem says
 

@@ -27,15 +27,14 @@ use Rattle.header.specs.declared.shape.Scales.{Scales}
 use Rattle.header.specs.declared.shape.Placement.{Placement}
 use Rattle.header.specs.declared.blending.Decider.{Decider}
 use Rattle.header.specs.declared.parts.Front.{Front}
-use Rattle.header.specs.declared.entry.HeaderAnswer.{HeaderAnswer}
 use Rattle.header.specs.Arrays.{element, array}
 use Rattle.header.specs.Opening.{opening, upsamplings}
 use Rattle.header.specs.Shape.{passCounts, places, passes, scales, placement}
 use Rattle.header.specs.Blending.{blending}
 use Rattle.header.specs.Closing.{closing}
 use Rattle.header.specs.Header.{Header, Begun, front, back, header}
-use Rattle.header.specs.Entry.{badFacts, noRoom, judged, stands, refusalOf, refusedHeader, answered}
-use Rattle.header.specs.Questions.{frameHeader, frameOf}
+use Rattle.header.specs.Entry.{badFacts, noRoom, judged, stands, refusalOf, refusedHeader, answered, HeaderTold}
+use Rattle.header.specs.Record.{headerOf, frameOf}
 use Rattle.demand.specs.Frames.{HandedOn}
 use Rattle.demand.proofs.Ranges.{Given, Reading, Own, Reads, read-has, read-own, Any, reads-bind, reads-within, reads-inside, reads-times, reads-extensions}
 
@@ -234,8 +233,8 @@ size-facts f e =
     let high = or-parts (eqb (f .height) 0) (ltb 1073741824 (f .height)) (sizes .1) .1 in
     (ltb-false 1073741824 (f .width) wide, ltb-false 1073741824 (f .height) high)
 
-six-good : (f : Facts) (h : Header) → badFacts f ≡ false → Fronts f h → goodRecord (frameOf (frameHeader f (h .front) (h .back))) ≡ true
-unfolding goodRecord frameHeader
+six-good : (f : Facts) (h : Header) → badFacts f ≡ false → Fronts f h → goodRecord (frameOf (headerOf f (h .front) (h .back))) ≡ true
+unfolding goodRecord headerOf
 six-good f h b x =
     let p = passes-good (h .front .passes .«num_passes») (x .passes) in
     let size = size-facts f b in
@@ -251,7 +250,7 @@ six-good f h b x =
 
 -- ---- an accepted header
 
-answered-by : (b : Bool) (x : HeaderAnswer) (r : Refusal) → eqb (r .number) 0 ≡ b → pick b x (refusedHeader r) .refusal .number ≡ 0 → b ≡ true
+answered-by : (b : Bool) (x : HeaderTold) (r : Refusal) → eqb (r .number) 0 ≡ b → pick b x (refusedHeader r) .refusal .number ≡ 0 → b ≡ true
 unfolding refusedHeader
 answered-by true x r e h = refl
 answered-by false x r e h = absurd (eqb-false (r .number) 0 e h)
@@ -267,8 +266,8 @@ module _ (f : Facts) (s : List ℕ) (before : Refusal) (bounds : before .number 
   unfolding answered
   accepted = answered-by (eqb (refusalOf before (stands f s) .number) 0) _ (refusalOf before (stands f s)) refl ok
 
-  answer-is : _≡_ {A = HeaderAnswer} (answered f before (stands f s))
-      (record { header = frameHeader f (stands f s .value .front) (stands f s .value .back); end = stands f s .next .at; refusal = none })
+  answer-is : _≡_ {A = HeaderTold} (answered f before (stands f s))
+      (record { header = headerOf f (stands f s .value .front) (stands f s .value .back); end = stands f s .next .at; refusal = none })
   unfolding answered
   answer-is = rw accepted
 

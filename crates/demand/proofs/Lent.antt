@@ -19,8 +19,7 @@ use Rattle.grid.proofs.Answers.{judge-unknown}
 use Rattle.order.specs.declared.SectionAnswer.{SectionAnswer}
 use Rattle.order.specs.declared.SentAnswer.{SentAnswer}
 use Rattle.order.proofs.Tables.{filled-sets}
-use Rattle.sections.specs.declared.KindAnswer.{KindAnswer}
-use Rattle.sections.specs.Kinds.{kindOf}
+use Rattle.sections.specs.Kinds.{KindTold, kindOf}
 use Rattle.sections.specs.Lookups.{sectionOfSample}
 use Rattle.toc.specs.declared.Toc.{Toc}
 use Rattle.toc.specs.Reading.{Tables}
@@ -121,7 +120,7 @@ module _ (f : Frame) (toc : Toc) (due sent : List ℕ) (t : Tables) (ok : gridOf
   by-lies b j l = record { section = l .section; from = l .from; to = l .to }
 
   -- words of a kind
-  kind-leaves : (k : KindAnswer) (due : KindAnswer) → k ≡ due → due .refusal ≡ none → Leaves (kindAnswer k) (kindAnswer due .words)
+  kind-leaves : (k : KindTold) (due : KindTold) → k ≡ due → due .refusal ≡ none → Leaves (kindAnswer k) (kindAnswer due .words)
   kind-leaves k due e n = rw e (leaves (kindAnswer due) n)
 
   measured : (before after : List ℕ) (status : ℕ) → 11 ≤ length before → Given (gridAnswer (gridOf f)) before status after

@@ -20,16 +20,15 @@ use Rattle.grid.specs.declared.Frame.{Frame}
 use Rattle.grid.specs.Measured.{upsamples, goodRecord, gridOf}
 use Rattle.grid.proofs.Accepted.{Good, good, and-parts}
 use Rattle.header.specs.declared.Facts.{Facts}
-use Rattle.header.specs.declared.entry.HeaderAnswer.{HeaderAnswer}
-use Rattle.header.specs.Entry.{badFacts, judged, stands, answered}
-use Rattle.header.specs.Questions.{frameOf}
+use Rattle.header.specs.Entry.{badFacts, judged, stands, answered, HeaderTold}
+use Rattle.header.specs.Record.{frameOf}
 use Rattle.order.specs.Tables.{identity}
 use Rattle.order.proofs.Entries.{split}
 use Rattle.toc.specs.declared.Toc.{Toc}
 use Rattle.toc.specs.declared.TocRead.{TocRead}
 use Rattle.toc.specs.declared.TocRead.the-variants.{Table, OrderNeeded, Refused}
 use Rattle.toc.specs.Sizes.{sizeRows, tocRows}
-use Rattle.toc.specs.Reading.{Tables, tables, judged as judgedToc, judgedOrder, Reading, tocOf, sizedAnswer, firstRead, secondRead, refusedRead, firstReading, secondReading, Done}
+use Rattle.toc.specs.Reading.{Tables, tables, judged as judgedToc, judgedOrder, Reading, tocOf, sizedAnswer, firstRead, secondRead, refusedRead, firstReading, secondReading, Done, tocNumbers}
 use Rattle.toc.proofs.Accepted.{first-accepted, not-refused}
 use Rattle.c_words.specs.Contents.{tocStatus, tocAfter, noRoom, roomedReading, Listed}
 use Rattle.c_words.specs.Heading.{frontWords, backWords, frontAfter, arraysAfter, wordsAfter, recordRoom, noRecord, Buffers, judgedAll, HeadRead}
@@ -39,7 +38,7 @@ use Rattle.theorems.proofs.TocRefusals.{Told}
 use Rattle.theorems.proofs.Status.{none-told, first-word, second-word, head-told, words-written}
 use Rattle.demand.specs.Frames.{HandedOn}
 use Rattle.demand.specs.Lent.{frameBy, FrameBy, LentWhole, LentBytes}
-use Rattle.demand.proofs.Theorem.{first-whole, second-whole}
+use Rattle.demand.proofs.Theorem.{first-whole, second-whole, first-table, second-table}
 use Rattle.demand.proofs.Headers.{handed-on, unrefused, judged-facts}
 use Rattle.demand.proofs.Refusals.{Refuses}
 use Rattle.demand.proofs.Lent.{lent-whole}
@@ -108,7 +107,7 @@ module _ (s : List ℕ) (f : Frame) (t : Tables) (q : Reading) (out : List ℕ) 
     unfolding roomedReading refusedRead
     roomed =
         split (ltb (length out) 3)
-        (λ e. absurd (not-refused (noRoom (length s) f) (tabled .0) (roomedReading s f out q .answer) (rw e) (tabled .1)))
+        (λ e. absurd (not-refused (noRoom (length s) f) (tabled .0) (roomedReading s f out q .answer) (room-some (length s) f) (rw e) (tabled .1)))
         (λ e. (ltb-false (length out) 3 e, rw e))
 
     -- the entry's promise, as the function without words has it
@@ -117,7 +116,7 @@ module _ (s : List ℕ) (f : Frame) (t : Tables) (q : Reading) (out : List ℕ) 
     done =
         let e = roomed .1 in
         record {
-          answer = sym (tabled .1) ∙ ap (λ (r : Reading). r .answer) e;
+          answer = ap tocNumbers (sym (tabled .1) ∙ ap (λ (r : Reading). r .answer) e);
           offsets = rw e at (l .offsets);
           sizes = rw e at (l .sizes);
           order = rw e at (l .order);
@@ -145,7 +144,7 @@ module _ (s : List ℕ) (f : Frame) (t : Tables) (q : Reading) (out : List ℕ) 
 
 -- ---- the header's words
 
-module _ (a : HeaderAnswer) (out : List ℕ) (room : 51 ≤ length out) where
+module _ (a : HeaderTold) (out : List ℕ) (room : 51 ≤ length out) where
   abbrev front : List ℕ
   front = frontAfter a out
 
@@ -184,16 +183,16 @@ module _ (a : HeaderAnswer) (out : List ℕ) (room : 51 ≤ length out) where
   unfolding frontAfter frontWords
   front-word k low high =
       early-word k high
-      ∙ sets-inside 0 (frontWords (a .header)) (set (set out 0 (a .end)) 1 (a .header .flags .0)) 2 k low (omega arith)
-      (omega (arith, length-set (set out 0 (a .end)) 1 (a .header .flags .0), length-set out 0 (a .end)))
+      ∙ sets-inside 0 (frontWords (a .header)) (set (set out 0 (a .end)) 1 (a .header .flags)) 2 k low (omega arith)
+      (omega (arith, length-set (set out 0 (a .end)) 1 (a .header .flags), length-set out 0 (a .end)))
 
   -- word 0
   end-word : getD (wordsAfter a out) 0 0 ≡ a .end
   unfolding frontAfter
   end-word =
       early-word 0 (omega arith)
-      ∙ sets-outside 0 (frontWords (a .header)) (set (set out 0 (a .end)) 1 (a .header .flags .0)) 2 0 (inl (omega arith))
-      ∙ getD-set-other (set out 0 (a .end)) 1 0 (a .header .flags .0) 0 (λ e. omega arith)
+      ∙ sets-outside 0 (frontWords (a .header)) (set (set out 0 (a .end)) 1 (a .header .flags)) 2 0 (inl (omega arith))
+      ∙ getD-set-other (set out 0 (a .end)) 1 0 (a .header .flags) 0 (λ e. omega arith)
       ∙ getD-set-same out 0 (a .end) 0 (omega arith)
 
   frame-words : frameBy (wordsAfter a out) ≡ frameOf (a .header)
@@ -251,7 +250,7 @@ upsampling-small f e =
 -- `hingevale_read_frame_header` was asked with the facts and the bytes s, and lent six slices; its status is 0
 module _ (facts : Facts) (s : List ℕ) (word : ℕ) (before after : Buffers) (header : HeadRead facts s word before after) (accepted : word ≡ 0) where
   -- what it read
-  abbrev pub said : HeaderAnswer
+  abbrev pub said : HeaderTold
   said = answered facts (judgedAll s facts before) (stands facts s)
 
   said-none : said .refusal .number ≡ 0
@@ -303,7 +302,7 @@ first-lent s f place t status o z p i out out' l zero =
     let d = done s f t q out told some status o z p i out' l zero in
     let x : Toc = toc s f t q out told some status o z p i out' l zero in
     let n : getD out' 0 0 ≡ x .count = count-word s f t q out told some status o z p i out' l zero in
-    let a = first-accepted s f place t x (sym (d .answer)) .0 in
+    let a = first-accepted s f place t x (first-table s f place t x o z p i d) .0 in
     let whole = first-whole s f place t x o z p i d in
     reworded f x _ _ _ _ (q .sizes) (tables o z p i) n (start-word s f t q out told some status o z p i out' l zero)
     (total-word s f t q out told some status o z p i out' l zero)
@@ -319,7 +318,7 @@ second-lent s f place order t status o z p i out out' l zero =
     let some = second-some s f place order t in
     let d = done s f t q out told some status o z p i out' l zero in
     let x : Toc = toc s f t q out told some status o z p i out' l zero in
-    let a = second-accepted s f place order t x (sym (d .answer)) .0 in
+    let a = second-accepted s f place order t x (second-table s f place order t x o z p i d) .0 in
     let whole = second-whole s f place order t x o z p i d in
     reworded f x _ _ _ _ (q .sizes) (tables o z p i) (count-word s f t q out told some status o z p i out' l zero)
     (start-word s f t q out told some status o z p i out' l zero)
@@ -334,7 +333,7 @@ module _ (facts : Facts) (s : List ℕ) (word : ℕ) (before after : Buffers) (h
     abbrev left : List ℕ
     left = after .numbers
 
-    abbrev answer : HeaderAnswer
+    abbrev answer : HeaderTold
     answer = said facts s word before after header accepted
 
     -- at the place of word 0

@@ -14,9 +14,8 @@ use Rattle.bits.proofs.Bits.{and-left, and-right}
 use Rattle.bits.proofs.Numbered.{of-both}
 use Rattle.grid.specs.declared.Frame.{Frame}
 use Rattle.header.specs.declared.Facts.{Facts}
-use Rattle.header.specs.declared.entry.HeaderAnswer.{HeaderAnswer}
-use Rattle.header.specs.Entry.{badFacts, noRoom, judged, stands, refusalOf, refusedHeader, answered}
-use Rattle.header.specs.Questions.{frameOf}
+use Rattle.header.specs.Entry.{badFacts, noRoom, judged, stands, refusalOf, refusedHeader, answered, HeaderTold}
+use Rattle.header.specs.Record.{frameOf}
 use Rattle.order.proofs.Entries.{split}
 use Rattle.toc.specs.declared.TocRead.{TocRead}
 use Rattle.toc.specs.declared.TocRead.the-variants.{Table, OrderNeeded, Refused}
@@ -97,12 +96,12 @@ header-own s facts =
     (of-both (λ (r : Refusal). Own (r .number)) (noRoom facts 1071 256 1024) (refusal 3 0) none (inl (omega arith)) (inl (omega arith)))) in
     let both : Own (refusalOf before (stands facts s) .number) =
     of-both (λ (r : Refusal). Own (r .number)) (eqb (before .number) 0) (stands facts s .next .fault) before (fault-own facts s) few in
-    of-both (λ (a : HeaderAnswer). Own (a .refusal .number)) (eqb (refusalOf before (stands facts s) .number) 0) _
+    of-both (λ (a : HeaderTold). Own (a .refusal .number)) (eqb (refusalOf before (stands facts s) .number) 0) _
     (refusedHeader (refusalOf before (stands facts s))) (inl (omega arith)) both
 
 -- ---- a property of all numbers of fields, and of the entry's with what an accepted header hands on
 module _ (P : ℕ → Type 0) (own : (n : ℕ) → Own n → P n)
-    (entry : (facts : Facts) (s : List ℕ) (a : HeaderAnswer) → HandedOn facts s a → Allowed P s (frameOf (a .header)) (a .end)) where
+    (entry : (facts : Facts) (s : List ℕ) (a : HeaderTold) → HandedOn facts s a → Allowed P s (frameOf (a .header)) (a .end)) where
   header-says : (s : List ℕ) (facts : Facts) → Says P (headerText s facts)
   unfolding headerText
   header-says s facts =

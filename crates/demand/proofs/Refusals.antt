@@ -17,8 +17,8 @@ use Rattle.grid.specs.declared.Frame.{Frame}
 use Rattle.grid.specs.declared.Grid.{Grid}
 use Rattle.grid.specs.Measured.{goodRecord, zeroSize, tooMany, laid, refusedGrid, gridOf}
 use Rattle.header.specs.declared.Facts.{Facts}
-use Rattle.header.specs.declared.entry.HeaderAnswer.{HeaderAnswer}
-use Rattle.header.specs.Questions.{frameOf}
+use Rattle.header.specs.Entry.{HeaderTold}
+use Rattle.header.specs.Record.{frameOf}
 use Rattle.order.specs.Order.{isOrder, checked}
 use Rattle.toc.specs.declared.TocRead.{TocRead}
 use Rattle.toc.specs.declared.TocRead.the-variants.{Table, OrderNeeded, Refused}
@@ -160,7 +160,7 @@ allowed-11 s f place h = record {
 }
 
 -- ---- the laws. `HandedOn` is what an accepted header is (`header-handed` of Frames).
-module _ (facts : Facts) (s : List ℕ) (a : HeaderAnswer) (h : HandedOn facts s a) where
+module _ (facts : Facts) (s : List ℕ) (a : HeaderTold) (h : HandedOn facts s a) where
   -- the header's frame, at any place, is never refused with 8
   pub first-never-8 : (place : ℕ) (t : Tables) (r : Refusal) → firstReading s (frameOf (a .header)) place t .answer ≡ Refused r → r .number ≡ 8 → ⊥
   first-never-8 place t = refuses-by Not8 _ (first-refuses Not8 s (frameOf (a .header)) place (allowed-8 s (frameOf (a .header)) place (h .good)) t)

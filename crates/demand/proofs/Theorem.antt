@@ -15,15 +15,13 @@ use Rattle.order.specs.declared.SentAnswer.{SentAnswer}
 use Rattle.order.specs.Tables.{identity, inverseOf}
 use Rattle.order.proofs.Reach.{order-below}
 use Rattle.order.proofs.Inverse.{inverse-order, inverse-there}
-use Rattle.sections.specs.declared.TocGroupKind.{TocGroupKind}
-use Rattle.sections.specs.declared.TocGroupKind.the-variants.{All, GroupPass}
-use Rattle.sections.specs.declared.KindAnswer.{KindAnswer}
+use Rattle.sections.specs.declared.KindNumbers.{KindNumbers}
 use Rattle.sections.specs.declared.SectionPlace.{SectionPlace}
-use Rattle.sections.specs.Kinds.{kindOf}
+use Rattle.sections.specs.Kinds.{KindTold}
 use Rattle.toc.specs.declared.Toc.{Toc}
 use Rattle.toc.specs.declared.TocRead.the-variants.{Table}
 use Rattle.toc.specs.Reading.{Tables, tables, Reading, firstReading, secondReading, Done}
-use Rattle.toc.proofs.Accepted.{first-accepted}
+use Rattle.toc.proofs.Accepted.{first-accepted, same-answer, first-telling, second-telling}
 use Rattle.theorems.proofs.Orders.{inverse-back}
 use Rattle.theorems.proofs.Tables.{second-accepted}
 use Rattle.theorems.proofs.Demand.{Holds, Demand, first-written, second-written}
@@ -31,9 +29,6 @@ use Rattle.demand.specs.Whole.{colourWidth, colourHeight, found, placeIn
 use Rattle.demand.proofs.Lookups.{Ready, ready, sent-is, section-is, place-is, starts, width-answer, height-answer, some-sample, width-is, height-is, covered, covers, clipped-in}
 
 -- All is no GroupPass
-not-all : (k : TocGroupKind) (pass group : ℕ) → k ≡ GroupPass pass group → k ≡ All → ⊥
-not-all k pass group p q = let z : _≡_ {A = ℕ} 0 1 = cc in omega arith
-
 module _ (f : Frame) (toc : Toc) (due sent : List ℕ) (t : Tables) (r : Ready f toc due sent t) (d : Demand f toc due sent t) where
   -- ---- there and back
 
@@ -131,7 +126,7 @@ module _ (f : Frame) (toc : Toc) (due sent : List ℕ) (t : Tables) (r : Ready f
             (λ one. one)
             (λ several.
             let is = at .group several (grouped x y) (d .one-sample-one-rectangle .inside x y wx wy) in
-            absurd (not-all (kindOf f (found f x y pass) .kind) pass (grouped x y) (ap (λ (a : KindAnswer). a .kind) is) e));
+            absurd (let z : _≡_ {A = ℕ} 4 0 = sym (ap (λ (a : KindTold). a .numbers .kind) is) ∙ ap (λ (k : KindNumbers). k .kind) e in omega arith));
         group = λ several i h. at .group several i (covered f (r .frame) x y i h);
         starts = starts f toc due sent t r (found f x y pass) (at .section);
       }
@@ -151,13 +146,23 @@ module _ (f : Frame) (toc : Toc) (due sent : List ℕ) (t : Tables) (r : Ready f
 due-order : (f : Frame) (toc : Toc) (l m sent : List ℕ) (t : Tables) → l ≡ m → Ready f toc l sent t → Ready f toc m sent t
 due-order f toc l m sent t e x = rw (← e) x
 
+-- the table that an entry answered is the reading's, for its number and values tell it whole
+pub first-table : (s : List ℕ) (f : Frame) (place : ℕ) (t : Tables) (toc : Toc) (o z p i : List ℕ)
+    → Done (firstReading s f place t) t (Table toc) o z p i → firstReading s f place t .answer ≡ Table toc
+first-table s f place t toc o z p i d = sym (same-answer (Table toc) (firstReading s f place t .answer) (first-telling s f place t) (d .answer))
+
+pub second-table : (s : List ℕ) (f : Frame) (place : ℕ) (order : List ℕ) (t : Tables) (toc : Toc) (o z p i : List ℕ)
+    → Done (secondReading s f place order t) t (Table toc) o z p i → secondReading s f place order t .answer ≡ Table toc
+second-table s f place order t toc o z p i d =
+    sym (same-answer (Table toc) (secondReading s f place order t .answer) (second-telling s f place t order) (d .answer))
+
 -- the first entry, by its promise: it answered a table, and left o, z, p, i in the four lent tables. The order that is due is the identity.
 pub first-whole : (s : List ℕ) (f : Frame) (place : ℕ) (t : Tables) (toc : Toc) (o z p i : List ℕ)
     → Done (firstReading s f place t) t (Table toc) o z p i
     → Whole f toc (identity (toc .count)) (firstReading s f place t .sizes) (tables o z p i)
 first-whole s f place t toc o z p i d =
     let q : Reading = firstReading s f place t in
-    let ok = first-accepted s f place t toc (sym (d .answer)) in
+    let ok = first-accepted s f place t toc (first-table s f place t toc o z p i d) in
     whole f toc (identity (toc .count)) (q .sizes) (tables o z p i)
     (due-order f toc (q .order) (identity (toc .count)) (q .sizes) (tables o z p i) (ok .1) (ready s f t toc q (ok .0) o z p i d))
     (first-written s f place t toc o z p i d)
@@ -168,7 +173,7 @@ pub second-whole : (s : List ℕ) (f : Frame) (place : ℕ) (order : List ℕ) (
     → Whole f toc order (secondReading s f place order t .sizes) (tables o z p i)
 second-whole s f place order t toc o z p i d =
     let q : Reading = secondReading s f place order t in
-    let ok = second-accepted s f place order t toc (sym (d .answer)) in
+    let ok = second-accepted s f place order t toc (second-table s f place order t toc o z p i d) in
     whole f toc order (q .sizes) (tables o z p i)
     (due-order f toc (q .order) order (q .sizes) (tables o z p i) (ok .1) (ready s f t toc q (ok .0) o z p i d))
     (second-written s f place order t toc o z p i d)

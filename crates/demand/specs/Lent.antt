@@ -8,8 +8,8 @@ use Rattle.bits.specs.Refusals.{pick}
 use Rattle.grid.specs.declared.Frame.{Frame}
 use Rattle.grid.specs.Measured.{gridOf}
 use Rattle.header.specs.declared.Facts.{Facts}
-use Rattle.header.specs.declared.entry.HeaderAnswer.{HeaderAnswer}
-use Rattle.header.specs.Questions.{frameOf}
+use Rattle.header.specs.Entry.{HeaderTold}
+use Rattle.header.specs.Record.{frameOf}
 use Rattle.order.specs.Sums.{sumTo}
 use Rattle.sections.specs.Kinds.{kindOf}
 use Rattle.sections.specs.Lookups.{sectionOfSample, placeOf, sentOfSection, sectionOfSent}
@@ -25,7 +25,7 @@ abbrev pub frameBy : List ℕ → Frame
 frameBy w = frame (getD w 35 0) (getD w 36 0) (getD w 6 0) (getD w 33 0) (getD w 7 0) (getD w 10 0)
 
 -- they are the accepted header's own, and as 32-bit numbers none is another
-pub record FrameBy (facts : Facts) (s : List ℕ) (a : HeaderAnswer) (w : List ℕ) : Type 0 where
+pub record FrameBy (facts : Facts) (s : List ℕ) (a : HeaderTold) (w : List ℕ) : Type 0 where
   pub handed-on : HandedOn facts s a
   pub frame : frameBy w ≡ frameOf (a .header)
   pub place : getD w 0 0 ≡ a .end
@@ -115,6 +115,6 @@ pub record LentWhole (f : Frame) (count start total : ℕ) (due sizesSent : List
 
 -- From the bytes to lent memory: the words w of the header are its frame's and its end, and with these the demand holds, of count n, data start b and
 -- total l.
-pub record LentBytes (facts : Facts) (s : List ℕ) (a : HeaderAnswer) (w : List ℕ) (n b l : ℕ) (due sent : List ℕ) (t : Tables) : Type 0 where
+pub record LentBytes (facts : Facts) (s : List ℕ) (a : HeaderTold) (w : List ℕ) (n b l : ℕ) (due sent : List ℕ) (t : Tables) : Type 0 where
   pub frame : FrameBy facts s a w
   pub whole : LentWhole (frameBy w) n b l due sent t

@@ -21,9 +21,8 @@ use Rattle.order.specs.declared.SectionAnswer.{SectionAnswer}
 use Rattle.order.specs.declared.SentAnswer.{SentAnswer}
 use Rattle.order.specs.Sums.{sumTo}
 use Rattle.sections.specs.declared.TocGroupKind.the-variants.{All, GroupPass}
-use Rattle.sections.specs.declared.KindAnswer.{KindAnswer}
 use Rattle.sections.specs.declared.SectionPlace.{SectionPlace}
-use Rattle.sections.specs.Kinds.{kindOf}
+use Rattle.sections.specs.Kinds.{numbersOf, KindTold, kindOf}
 use Rattle.sections.specs.Lookups.{sectionOfSample, placeOf, sentOfSection, sectionOfSent}
 use Rattle.toc.specs.declared.Toc.{Toc}
 use Rattle.toc.specs.Sizes.{sentBefore}
@@ -146,11 +145,11 @@ pub record Found (f : Frame) (toc : Toc) (sent : List ℕ) (t : Tables) (x y pas
   pub answered : sectionOfSample f x y pass .refusal ≡ none
   pub section : found f x y pass .0 < toc .count
   -- it is the sample's own: All, exactly where the frame has one section
-  pub all : toc .count ≡ 1 → _≡_ {A = KindAnswer} (kindOf f (found f x y pass)) (record { kind = All; refusal = none })
-  pub all-only : kindOf f (found f x y pass) .kind ≡ All → toc .count ≡ 1
+  pub all : toc .count ≡ 1 → _≡_ {A = KindTold} (kindOf f (found f x y pass)) (record { numbers = numbersOf All; refusal = none })
+  pub all-only : kindOf f (found f x y pass) .numbers ≡ numbersOf All → toc .count ≡ 1
   -- else GroupPass of that pass and of the group whose rectangle holds the sample
   pub group : (toc .count ≡ 1 → ⊥) → (group : ℕ) → Covers f x y group
-      → _≡_ {A = KindAnswer} (kindOf f (found f x y pass)) (record { kind = GroupPass pass group; refusal = none })
+      → _≡_ {A = KindTold} (kindOf f (found f x y pass)) (record { numbers = numbersOf (GroupPass pass group); refusal = none })
   -- and it starts where it is due
   pub starts : Starts f toc sent t (found f x y pass)
 

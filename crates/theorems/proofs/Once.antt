@@ -37,7 +37,7 @@ use Rattle.c_words.specs.Heading.{Buffers, HandedOut, HeadRead}
 
 -- ---- enums, whose promises name their numbers
 
-abbrev typeBy : ℕ → FrameType
+abbrev pub typeBy : ℕ → FrameType
 typeBy n = pick (eqb n 0) RegularFrame (pick (eqb n 1) LfFrame (pick (eqb n 2) ReferenceOnly SkipProgressive))
 
 type-by : (k : FrameType) → typeBy (frameTypeNumber k) ≡ k
@@ -46,14 +46,14 @@ type-by LfFrame = refl
 type-by ReferenceOnly = refl
 type-by SkipProgressive = refl
 
-abbrev encodingBy : ℕ → Encoding
+abbrev pub encodingBy : ℕ → Encoding
 encodingBy n = pick (eqb n 0) VarDct Modular
 
 encoding-by : (e : Encoding) → encodingBy (encodingNumber e) ≡ e
 encoding-by VarDct = refl
 encoding-by Modular = refl
 
-abbrev modeBy : ℕ → BlendMode
+abbrev pub modeBy : ℕ → BlendMode
 modeBy n = pick (eqb n 0) Replace (pick (eqb n 1) Add (pick (eqb n 2) Blend (pick (eqb n 3) MulAdd Mul)))
 
 mode-by : (m : BlendMode) → modeBy (blendModeNumber m) ≡ m
@@ -64,10 +64,10 @@ mode-by MulAdd = refl
 mode-by Mul = refl
 
 -- a header's record is told whole by its numbers
-abbrev infoBy : BlendingNumbers → BlendingInfo
+abbrev pub infoBy : BlendingNumbers → BlendingInfo
 infoBy b = record { mode = modeBy (b .mode); «alpha_channel» = b .«alpha_channel»; clamp = b .clamp; source = b .source }
 
-abbrev headerBy : HeaderNumbers → FrameHeader
+abbrev pub headerBy : HeaderNumbers → FrameHeader
 headerBy h = record {
   «frame_type» = typeBy (h .«frame_type»);
   encoding = encodingBy (h .encoding);
