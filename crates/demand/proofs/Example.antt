@@ -29,7 +29,7 @@ use Rattle.header.specs.Closing.{closing}
 use Rattle.header.specs.declared.entry.HeaderAnswer.{HeaderAnswer}
 use Rattle.header.specs.Entry.{judged, stands, refusedHeader, answered, kept, Headed, HeaderTold, told}
 use Rattle.header.specs.Record.{headerOf, frameOf}
-use Rattle.order.specs.Order.{isOrder, checked, allBelow, distinct}
+use Rattle.order.specs.Order.{isOrder, checked, allBelow, distinct, has as occurs}
 use Rattle.order.specs.Sums.{sumTo}
 use Rattle.order.specs.Tables.{tabulate, indexOf, inverseOf, identity, filled}
 use Rattle.order.specs.Numbers.{sentOf, entryAt, lookedUp}
