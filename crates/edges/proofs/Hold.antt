@@ -33,7 +33,8 @@ use Rattle.toc.specs.Sizes.{tocRows, sizeRows, sentBefore, offsetsBy, sizesBy}
 use Rattle.toc.specs.Reading.{roomFor, judgedBy, judgedOrder, tocOf, sizedAnswer, firstRead, secondRead, refusedRead, firstReading, secondReading, tablesOf, written}
 use Rattle.decimal.specs.Decimal.{spelled, decimal, digitsAlone, leads, valueFrom, parsed, judged as decimal-judged}
 use Rattle.decimal.specs.UpTo.{upTo, behind, numbered}
-use Rattle.listing.specs.Text.{column, cells, heading, kindName, rowText, rowsFrom, totalText}
+use Rattle.listing.specs.Text.{column, heading, kindName, rowText, rowsFrom, totalText}
+use Rattle.listing.specs.Private.{cells}
 use Rattle.listing.specs.Listed.{rectBy, rowAt, listingText}
 use Rattle.listing_job.specs.Line.{limits, factsFrom, stopBefore, lineRead}
 use Rattle.listing_job.specs.Job.{readText, readingText, headerText, jobText}

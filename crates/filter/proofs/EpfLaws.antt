@@ -21,8 +21,9 @@ use Rattle.filter.specs.declared.settings.ScaleRead.{ScaleRead}
 use Rattle.filter.specs.declared.settings.SigmaRead.{SigmaRead}
 use Rattle.filter.specs.declared.epf.EdgePreservingFilter.{EdgePreservingFilter}
 use Rattle.filter.specs.declared.epf.EpfRead.{EpfRead}
-use Rattle.filter.specs.Values.{decimal, float, floats, floatRead}
-use Rattle.filter.specs.Epf.{sharpDefault, scaleDefault, sigmaDefault, settings, epfDefault, epfDisabled, sharp, scale, sigma, sigmaOf, epfOf, epf, sharpRead, scaleRead, sigmaRead, epfRead}
+use Rattle.filter.specs.Values.{decimal, float, floats}
+use Rattle.filter.specs.Private.{floatRead, sharpRead, scaleRead, sigmaRead}
+use Rattle.filter.specs.Epf.{sharpDefault, scaleDefault, sigmaDefault, settings, epfDefault, epfDisabled, sharp, scale, sigma, sigmaOf, epfOf, epf, epfRead}
 
 pub float-read : (s : List ℕ) (on : Bool) (d : ℕ) (c : Cursor) (h : Field) (value : Float) → h ≡ field s on f16 d c → value ≡ half (h .value)
     → _≡_ {A = FloatRead} (record { value = value; next = h .next }) (floatRead (field s on f16 d c))

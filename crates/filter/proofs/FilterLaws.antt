@@ -23,7 +23,7 @@ use Rattle.filter.specs.declared.FilterRead.{FilterRead}
 use Rattle.filter.specs.Values.{decimal, float, floats}
 use Rattle.filter.specs.Weights.{unbalanced}
 use Rattle.filter.specs.Gabor.{gaborDefault, gaborDisabled, gaborOf, channel, gabor, gaborRead}
-use Rattle.filter.specs.Epf.{sharpDefault, scaleDefault, sigmaDefault, epfDefault, epfDisabled, sharp, scale, sigma, epf, epfRead}
+use Rattle.filter.specs.Epf.{epfDefault, epfDisabled, sharp, scale, sigma, epf, epfRead}
 use Rattle.filter.specs.Filter.{restoration, filterDefault, filterDisabled, filterRead}
 
 gabor-out : (on : Bool) (s : List ℕ) (c : Cursor) (x : GaborRead) → x ≡ gaborRead (read (gabor on) s c) → Reads (gabor on) s c (record { value = x .value; next = x .next })

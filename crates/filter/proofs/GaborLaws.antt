@@ -17,7 +17,8 @@ use Rattle.filter.specs.declared.gabor.GaborRead.{GaborRead}
 use Rattle.filter.specs.declared.gabor.Channel.{Channel}
 use Rattle.filter.specs.declared.gabor.ChannelRead.{ChannelRead}
 use Rattle.filter.specs.Weights.{unbalanced}
-use Rattle.filter.specs.Gabor.{weightsOf, gaborDefault, gaborDisabled, gaborOf, channel, channelRead, gabor, gaborRead}
+use Rattle.filter.specs.Gabor.{weightsOf, gaborDefault, gaborDisabled, gaborOf, channel, gabor, gaborRead}
+use Rattle.filter.specs.Private.{channelRead}
 
 module _ (enabled own : ℕ) (x y z : Channel) where
   pub of-disabled : (enabled ≡ 1 → ⊥) → gaborDisabled ≡ gaborOf enabled own x y z

@@ -1,5 +1,5 @@
 -- Laws of the weights test: the size of an f16 as the code makes it, how large it is, and what a sign does.
-use Prim.Native.Nat.{ℕ, _+_, _-_, _*_, _/_, _%_, _^_, _≤_, _<_}
+use Prim.Native.Nat.{ℕ, _+_, _-_, _*_, _/_, _%_, _^_, _<_}
 use native.Mathlib.Omega.{arith}
 use native.Mathlib.Nat.{mod-lt, lt-of-lt-of-le}
 use mathlib.Core.Path.{_≡_, refl, sym, _∙_}

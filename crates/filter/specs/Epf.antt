@@ -8,9 +8,6 @@ use Rattle.bits.specs.Refusals.{pick}
 use Rattle.bits.specs.Codec.{u, bool}
 use Rattle.bits.specs.Table.{Table, Out, ends, row, bind, within}
 use Rattle.filter.specs.declared.settings.EpfSigma.{EpfSigma}
-use Rattle.filter.specs.declared.settings.SharpRead.{SharpRead}
-use Rattle.filter.specs.declared.settings.ScaleRead.{ScaleRead}
-use Rattle.filter.specs.declared.settings.SigmaRead.{SigmaRead}
 use Rattle.filter.specs.declared.settings.EpfParams.{EpfParams}
 use Rattle.filter.specs.declared.epf.EdgePreservingFilter.{EdgePreservingFilter}
 use Rattle.filter.specs.declared.epf.EpfRead.{EpfRead}
@@ -126,16 +123,6 @@ epf on modular =
     bind (within (λ r. fourOf (r .params)) (sigma live modular)) λ four.
     bind (float (live && modular) 15360 λ r. pattern (r .params .«sigma_for_modular»)) λ m.
     ends (epfOf iters (settings lut scales four m))
-
--- what was read, and the cursor after it
-abbrev pub sharpRead : Out (List Float) → SharpRead
-sharpRead o = record { value = o .value; next = o .next }
-
-abbrev pub scaleRead : Out (List Float) → ScaleRead
-scaleRead o = record { value = o .value; next = o .next }
-
-abbrev pub sigmaRead : Out EpfSigma → SigmaRead
-sigmaRead o = record { value = o .value; next = o .next }
 
 abbrev pub epfRead : Out EdgePreservingFilter → EpfRead
 epfRead o = record { value = o .value; next = o .next }

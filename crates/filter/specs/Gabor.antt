@@ -11,7 +11,6 @@ use Rattle.bits.specs.Table.{Table, Out, ends, row, fails, bind}
 use Rattle.filter.specs.declared.gabor.Gabor.{Gabor}
 use Rattle.filter.specs.declared.gabor.GaborRead.{GaborRead}
 use Rattle.filter.specs.declared.gabor.Channel.{Channel}
-use Rattle.filter.specs.declared.gabor.ChannelRead.{ChannelRead}
 use Rattle.filter.specs.Values.{decimal, plusZero, patternAt, custom}
 use Rattle.filter.specs.Weights.{unbalanced}
 
@@ -54,10 +53,6 @@ gabor on =
     bind (channel (eqb own 1) 1) λ y.
     bind (channel (eqb own 1) 2) λ z.
     ends (gaborOf enabled own x y z)
-
--- what was read, and the cursor after it
-abbrev pub channelRead : Out Channel → ChannelRead
-channelRead o = record { value = o .value; next = o .next }
 
 abbrev pub gaborRead : Out Gabor → GaborRead
 gaborRead o = record { value = o .value; next = o .next }

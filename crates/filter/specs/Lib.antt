@@ -3,3 +3,4 @@ pub mod Weights
 pub mod Gabor
 pub mod Epf
 pub mod Filter
+pub mod Private

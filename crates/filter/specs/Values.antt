@@ -6,12 +6,10 @@ use lib.Dec.{eqb}
 use lib.IntN.{pos}
 use lib.ListN.{getD}
 use lib.Ieee.{Float, nan, inf, fin, binary32, round, div, ofInt, toBits, up, down, size}
-use Rattle.bits.specs.declared.Field.{Field}
 use Rattle.bits.specs.Refusals.{pick}
 use Rattle.bits.specs.Codec.{f16}
 use Rattle.bits.specs.Half.{half}
 use Rattle.bits.specs.Table.{Table, ends, row, times}
-use Rattle.filter.specs.declared.floats.FloatRead.{FloatRead}
 
 -- the f32 nearest to n / d: a decimal such as 0.46 is `decimal 46 100`
 unfoldable pub decimal : ℕ → ℕ → Float
@@ -54,7 +52,3 @@ float on d column = row on f16 d column λ h. ends (half h)
 -- so many of them one after another
 unfoldable pub floats : {R : Type 0} → Bool → ℕ → (R → List Float) → Table R (List Float)
 floats on count values = times count 0 λ i. float on 0 λ r. patternAt (values r) i
-
--- what was read, and the cursor after it
-abbrev pub floatRead : Field → FloatRead
-floatRead f = record { value = half (f .value); next = f .next }

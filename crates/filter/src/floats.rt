@@ -2,7 +2,7 @@
 use bits::Cursor;
 ghost use mathlib.Core.Path.{_≡_};
 ghost use Rattle.bits.specs.Codec.{f16, field};
-ghost use Rattle.filter.specs.Values.{floatRead};
+ghost use Rattle.filter.specs.Private.{floatRead};
 
 pub struct FloatRead {
     pub value: f32,

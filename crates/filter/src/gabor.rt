@@ -3,7 +3,8 @@ use crate::weights::is_unbalanced;
 use bits::Cursor;
 ghost use mathlib.Core.Path.{_≡_};
 ghost use Rattle.bits.specs.Table.{read};
-ghost use Rattle.filter.specs.Gabor.{gaborDefault, gaborDisabled, gaborOf, channel, channelRead, gabor, gaborRead};
+ghost use Rattle.filter.specs.Gabor.{gaborDefault, gaborDisabled, gaborOf, channel, gabor, gaborRead};
+ghost use Rattle.filter.specs.Private.{channelRead};
 
 // Channel by channel, two weights each.
 pub struct Gabor {

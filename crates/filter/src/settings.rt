@@ -4,7 +4,8 @@ use bits::Cursor;
 ghost use mathlib.Core.Path.{_≡_};
 ghost use Rattle.bits.specs.Refusals.{pick};
 ghost use Rattle.bits.specs.Table.{read};
-ghost use Rattle.filter.specs.Epf.{sharpDefault, scaleDefault, sigmaDefault, sharp, scale, sigma, sigmaOf, sharpRead, scaleRead, sigmaRead};
+ghost use Rattle.filter.specs.Epf.{sharpDefault, scaleDefault, sigmaDefault, sharp, scale, sigma, sigmaOf};
+ghost use Rattle.filter.specs.Private.{sharpRead, scaleRead, sigmaRead};
 
 pub struct EpfParams {
     pub sharp_lut: [f32; 8],

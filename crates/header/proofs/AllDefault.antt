@@ -23,14 +23,13 @@ use Rattle.header.specs.declared.FrameHeader.{FrameHeader}
 use Rattle.header.specs.declared.parts.Front.{Front}
 use Rattle.header.specs.declared.parts.Back.{Back}
 use Rattle.header.specs.Arrays.{element, array}
-use Rattle.header.specs.Private.{Arrayed, Extras, Defaulted}
+use Rattle.header.specs.Private.{Arrayed, Extras, Defaulted, defaultFront, defaultBack}
 use Rattle.header.specs.Opening.{opening, upsamplings}
 use Rattle.header.specs.Shape.{passes, scales, placement}
 use Rattle.header.specs.Blending.{blending, words, sourceDecider}
 use Rattle.header.specs.Closing.{closing}
 use Rattle.header.specs.Header.{noBlending, front, back, header}
-use Rattle.header.specs.Record.{HeaderNumbers, numbersOf, headerOf}
-use Rattle.header.specs.Defaults.{defaultFront, defaultBack}
+use Rattle.header.specs.Record.{numbersOf, headerOf}
 
 -- a table that repeats, and reads nothing each time
 times-none : {R A : Type 0} (t : ℕ → Table R A) (v : A) (s : List ℕ) (c : Cursor) → ((i : ℕ) → Reads (t i) s c (record { value = v; next = c }))

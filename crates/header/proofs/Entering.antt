@@ -33,14 +33,13 @@ use Rattle.header.specs.declared.parts.BackRead.{BackRead}
 use Rattle.header.specs.declared.entry.HeaderAnswer.{HeaderAnswer}
 use Rattle.types.specs.Types.{frameTypeNumber, encodingNumber, blendModeNumber}
 use Rattle.header.specs.Arrays.{array}
-use Rattle.header.specs.Private.{Arrayed, extras, Extras, upsamplingFrom, blendingFrom, Fronted, Backed, Kept, Given, Filled, Defaulted, Named}
+use Rattle.header.specs.Private.{Arrayed, extras, Extras, upsamplingFrom, blendingFrom, Fronted, Backed, Kept, Given, Filled, Defaulted, Named, defaultFront, defaultBack}
 use Rattle.header.specs.Opening.{opening, upsamplings}
 use Rattle.header.specs.Blending.{modes, coversImage, sourceDecider, blending, words}
 use Rattle.header.specs.Header.{Header, Begun, Ended, sentUpsampling, shown, front, back, header}
 use Rattle.header.specs.Record.{HeaderNumbers, infoNumbers, numbersOf, colorChannels, blendingOf, headerOf, zeroHeader}
 use Rattle.header.specs.Entry.{badFacts, judged, stands, HeaderTold, told, refusedHeader, answered, kept, Headed}
 use Rattle.header.proofs.Walks.{read-then, times-length, words-length, in-front}
-use Rattle.header.specs.Defaults.{defaultFront, defaultBack}
 use Rattle.header.proofs.Columns.{front-read, back-read}
 use Rattle.header.proofs.AllDefault.{header-off}
 

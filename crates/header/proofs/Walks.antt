@@ -29,8 +29,8 @@ use Rattle.header.specs.declared.blending.Blending.{Blending}
 use Rattle.header.specs.declared.blending.BlendingRead.{BlendingRead}
 use Rattle.header.specs.declared.blending.Decider.{Decider}
 use Rattle.header.specs.Arrays.{element, array}
-use Rattle.header.specs.Private.{Arrayed, Extras}
-use Rattle.header.specs.Blending.{blending, blendingRead, words}
+use Rattle.header.specs.Private.{Arrayed, Extras, blendingRead}
+use Rattle.header.specs.Blending.{blending, words}
 
 -- a table that repeats: its first element, then the others
 pub times-first : {R A : Type 0} (m i : ℕ) (f : ℕ → Table R A) (s : List ℕ) (c : Cursor) (o : Out A) → o ≡ read (f i) s c

@@ -25,11 +25,11 @@ use Rattle.header.specs.declared.blending.Blending.{Blending}
 use Rattle.header.specs.declared.blending.BlendingRead.{BlendingRead}
 use Rattle.header.specs.declared.closing.ClosingRead.{ClosingRead}
 use Rattle.header.specs.Arrays.{array}
-use Rattle.header.specs.Private.{Arrayed, extras, Extras, Fronted, Backed}
-use Rattle.header.specs.Opening.{opening, openingRead, upsamplings}
-use Rattle.header.specs.Shape.{passes, passesRead, scales, scalesRead, placement, placementRead}
-use Rattle.header.specs.Blending.{coversImage, resets, byOwn, sourceDecider, blending, blendingRead}
-use Rattle.header.specs.Closing.{closing, closingRead}
+use Rattle.header.specs.Private.{Arrayed, extras, Extras, Fronted, Backed, blendingRead, closingRead, openingRead, passesRead, scalesRead, placementRead}
+use Rattle.header.specs.Opening.{opening, upsamplings}
+use Rattle.header.specs.Shape.{passes, scales, placement}
+use Rattle.header.specs.Blending.{coversImage, resets, byOwn, sourceDecider, blending}
+use Rattle.header.specs.Closing.{closing}
 use Rattle.header.specs.Header.{Header, Begun, Ended, sentUpsampling, shown, front, back}
 use Rattle.header.proofs.Walks.{array-any, read-then}
 

@@ -8,13 +8,12 @@ use lib.Signed.{leZ}
 use Rattle.bits.specs.declared.Choices.{Choices}
 use Rattle.bits.specs.Refusals.{pick}
 use Rattle.bits.specs.Codec.{u, bool, u32, cases, val, plus, signed, oneOf}
-use Rattle.bits.specs.Table.{Table, Out, ends, row}
+use Rattle.bits.specs.Table.{Table, ends, row}
 use Rattle.types.specs.declared.BlendMode.the-variants.{Replace, Blend, MulAdd, Mul}
 use Rattle.types.specs.Types.{isMode}
 use Rattle.header.specs.declared.Facts.{Facts}
 use Rattle.header.specs.declared.shape.Placement.{Placement}
 use Rattle.header.specs.declared.blending.Blending.{Blending}
-use Rattle.header.specs.declared.blending.BlendingRead.{BlendingRead}
 use Rattle.header.specs.declared.blending.Decider.{Decider}
 
 -- U32(0, 1, 2, 3 + u(2)): Replace, Add, Blend, MulAdd, Mul
@@ -65,6 +64,3 @@ blending on extra full d =
 unfoldable pub words : List Blending → List ℕ
 words [] = []
 words (b ∷ bs) = b .mode ∷ b .«alpha_channel» ∷ b .clamp ∷ b .source ∷ words bs
-
-abbrev pub blendingRead : Out Blending → BlendingRead
-blendingRead o = record { value = o .value; next = o .next }

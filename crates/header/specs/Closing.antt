@@ -5,13 +5,12 @@ use lib.Dec.{eqb}
 use Rattle.bits.specs.declared.Choices.{Choices}
 use Rattle.bits.specs.Refusals.{pick}
 use Rattle.bits.specs.Codec.{u, bool, u32, val, plus, oneOf}
-use Rattle.bits.specs.Table.{Table, Out, ends, row}
+use Rattle.bits.specs.Table.{Table, ends, row}
 use Rattle.types.specs.declared.FrameType.the-variants.{RegularFrame, LfFrame, ReferenceOnly}
 use Rattle.types.specs.Types.{isType}
 use Rattle.header.specs.declared.Facts.{Facts}
 use Rattle.header.specs.declared.opening.Opening.{Opening}
 use Rattle.header.specs.declared.closing.Closing.{Closing}
-use Rattle.header.specs.declared.closing.ClosingRead.{ClosingRead}
 use Rattle.header.specs.Opening.{normalFrame}
 
 -- U32(0, 1, u(8), u(32))
@@ -52,6 +51,3 @@ closing f o resets =
       «save_before_ct» = ct;
       «name_length» = name;
     })
-
-abbrev pub closingRead : Out Closing → ClosingRead
-closingRead o = record { value = o .value; next = o .next }

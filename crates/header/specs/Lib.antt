@@ -6,6 +6,5 @@ pub mod Closing
 pub mod Header
 pub mod Record
 pub mod Questions
-pub mod Defaults
 pub mod Entry
 pub mod Private

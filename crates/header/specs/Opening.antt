@@ -3,10 +3,9 @@ use mathlib.Core.Bool.{Bool, true, not, _&&_, _||_}
 use lib.Dec.{eqb}
 use Rattle.bits.specs.declared.Choices.{Choices}
 use Rattle.bits.specs.Codec.{u, bool, u32, u64, val, oneOf}
-use Rattle.bits.specs.Table.{Table, Out, ends, row}
+use Rattle.bits.specs.Table.{Table, ends, row}
 use Rattle.header.specs.declared.Facts.{Facts}
 use Rattle.header.specs.declared.opening.Opening.{Opening}
-use Rattle.header.specs.declared.opening.OpeningRead.{OpeningRead}
 use Rattle.types.specs.declared.FrameType.the-variants.{RegularFrame, SkipProgressive}
 use Rattle.types.specs.Types.{isType, useLfFrame}
 
@@ -43,6 +42,3 @@ opening f =
       jpeg2 = j2;
       upsampling = up;
     })
-
-abbrev pub openingRead : Out Opening → OpeningRead
-openingRead o = record { value = o .value; next = o .next }

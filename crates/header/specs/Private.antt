@@ -10,10 +10,10 @@ use Rattle.bits.specs.declared.Choices.{Choices}
 use Rattle.bits.specs.declared.Cursor.{Cursor}
 use Rattle.bits.specs.declared.view.View.{View}
 use Rattle.bits.specs.declared.view.Seen.{Seen}
-use Rattle.bits.specs.Refusals.{none, start}
+use Rattle.bits.specs.Refusals.{none, start, pick}
 use Rattle.bits.specs.View.{seen, seenChoice}
 use Rattle.bits.specs.Codec.{Codec, u, u32, val, plus, oneOf, chosen}
-use Rattle.bits.specs.Table.{Table, times, read}
+use Rattle.bits.specs.Table.{Table, times, read, Out}
 use Rattle.header.specs.declared.Facts.{Facts}
 use Rattle.header.specs.declared.opening.Opening.{Opening}
 use Rattle.header.specs.declared.shape.Placement.{Placement}
@@ -30,8 +30,64 @@ use Rattle.header.specs.Blending.{coversImage, resets, byOwn, sourceDeci
 use Rattle.header.specs.Closing.{closing}
 use Rattle.header.specs.Header.{sentUpsampling, shown, noBlending, front, back}
 use Rattle.header.specs.Record.{headerOf}
-use Rattle.header.specs.Defaults.{defaultFront, defaultBack}
 use Rattle.header.specs.Entry.{told}
+use Rattle.header.specs.declared.blending.BlendingRead.{BlendingRead}
+use Rattle.header.specs.declared.closing.Closing.{Closing}
+use Rattle.header.specs.declared.closing.ClosingRead.{ClosingRead}
+use Rattle.header.specs.declared.opening.OpeningRead.{OpeningRead}
+use Rattle.header.specs.declared.shape.Passes.{Passes}
+use Rattle.header.specs.declared.shape.PassesRead.{PassesRead}
+use Rattle.header.specs.declared.shape.Scales.{Scales}
+use Rattle.header.specs.declared.shape.ScalesRead.{ScalesRead}
+use Rattle.header.specs.declared.shape.PlacementRead.{PlacementRead}
+use Rattle.header.specs.Shape.{passes, scales, placement}
+use Rattle.filter.specs.Filter.{filterDefault}
+
+-- what was read of a bundle, and the cursor after it
+abbrev pub blendingRead : Out Blending → BlendingRead
+blendingRead o = record { value = o .value; next = o .next }
+
+abbrev pub closingRead : Out Closing → ClosingRead
+closingRead o = record { value = o .value; next = o .next }
+
+abbrev pub openingRead : Out Opening → OpeningRead
+openingRead o = record { value = o .value; next = o .next }
+
+abbrev pub passesRead : Out Passes → PassesRead
+passesRead o = record { value = o .value; next = o .next }
+
+abbrev pub scalesRead : Out Scales → ScalesRead
+scalesRead o = record { value = o .value; next = o .next }
+
+abbrev pub placementRead : Out Placement → PlacementRead
+placementRead o = record { value = o .value; next = o .next }
+
+-- A header whose first bit says all default: every field has its default. A regular VarDCT frame of one pass, group size shift 1, as large as the image
+unfoldable pub defaultFront : Facts → Front
+defaultFront f = record {
+  opening = record {
+    «all_default» = 1;
+    «frame_type» = 0;
+    encoding = 0;
+    flags = 0;
+    «do_ycbcr» = 0;
+    jpeg0 = 0;
+    jpeg1 = 0;
+    jpeg2 = 0;
+    upsampling = 1;
+  };
+  scales = record { «group_size_shift» = 1; «x_qm_scale» = pick (f .xyb) 3 2; «b_qm_scale» = 2 };
+  passes = record { «num_passes» = 1; «num_ds» = 0; shift = replicate 10 0; downsample = replicate 4 0; «last_pass» = replicate 4 0 };
+  placement = record { «lf_level» = 0; «have_crop» = 0; x0 = 0; y0 = 0; width = f .width; height = f .height };
+}
+
+-- mode Replace, the last frame, no name, both default filters
+unfoldable pub defaultBack : Back
+defaultBack = record {
+  blending = noBlending;
+  closing = record { duration = 0; timecode = 0; «is_last» = 1; «save_as_reference» = 0; «save_before_ct» = 0; «name_length» = 0 };
+  filter = filterDefault;
+}
 
 -- U32(0, 1, 2, 3 + u(n))
 abbrev pub small : ℕ → Choices

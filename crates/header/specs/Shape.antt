@@ -6,18 +6,15 @@ use lib.ListN.{getD}
 use Rattle.bits.specs.declared.Choices.{Choices}
 use Rattle.bits.specs.Refusals.{pick}
 use Rattle.bits.specs.Codec.{u, bool, u32, val, plus, oneOf}
-use Rattle.bits.specs.Table.{Table, Out, ends, row, bind}
+use Rattle.bits.specs.Table.{Table, ends, row, bind}
 use Rattle.types.specs.declared.FrameType.the-variants.{LfFrame, ReferenceOnly}
 use Rattle.types.specs.declared.Encoding.the-variants.{VarDct, Modular}
 use Rattle.types.specs.Types.{isType, isEncoding}
 use Rattle.header.specs.declared.Facts.{Facts}
 use Rattle.header.specs.declared.opening.Opening.{Opening}
 use Rattle.header.specs.declared.shape.Passes.{Passes}
-use Rattle.header.specs.declared.shape.PassesRead.{PassesRead}
 use Rattle.header.specs.declared.shape.Scales.{Scales}
-use Rattle.header.specs.declared.shape.ScalesRead.{ScalesRead}
 use Rattle.header.specs.declared.shape.Placement.{Placement}
-use Rattle.header.specs.declared.shape.PlacementRead.{PlacementRead}
 use Rattle.header.specs.Arrays.{array}
 use Rattle.header.specs.Opening.{upsamplings}
 
@@ -69,12 +66,3 @@ placement f o =
     row (eqb cropped 1) (u32 places) (f .width) (λ r. r .width) λ w.
     row (eqb cropped 1) (u32 places) (f .height) (λ r. r .height) λ h.
     ends (record { «lf_level» = pick lf (level + 1) 0; «have_crop» = cropped; x0 = x; y0 = y; width = w; height = h })
-
-abbrev pub passesRead : Out Passes → PassesRead
-passesRead o = record { value = o .value; next = o .next }
-
-abbrev pub scalesRead : Out Scales → ScalesRead
-scalesRead o = record { value = o .value; next = o .next }
-
-abbrev pub placementRead : Out Placement → PlacementRead
-placementRead o = record { value = o .value; next = o .next }

@@ -26,8 +26,8 @@ ghost use lib.Dec.{eqb};
 ghost use Rattle.bits.specs.Refusals.{pick};
 ghost use Rattle.bits.specs.Codec.{val, plus};
 ghost use Rattle.bits.specs.Table.{read};
-ghost use Rattle.header.specs.Private.{seenSmall, Extras};
-ghost use Rattle.header.specs.Blending.{modes, alphas, coversSide, coversImage, sourceDecider, hasSource, blending, blendingRead};
+ghost use Rattle.header.specs.Private.{seenSmall, Extras, blendingRead};
+ghost use Rattle.header.specs.Blending.{modes, alphas, coversSide, coversImage, sourceDecider, hasSource, blending};
 
 pub struct BlendingInfo {
     pub mode: BlendMode,

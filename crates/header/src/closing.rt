@@ -12,7 +12,8 @@ use bits::read_bool_if;
 use numbers::read_u32_if;
 ghost use mathlib.Core.Path.{_≡_};
 ghost use Rattle.bits.specs.Table.{read};
-ghost use Rattle.header.specs.Closing.{durations, nameLengths, closing, closingRead};
+ghost use Rattle.header.specs.Closing.{durations, nameLengths, closing};
+ghost use Rattle.header.specs.Private.{closingRead};
 
 pub struct Closing {
     pub duration: u32,

@@ -20,8 +20,7 @@ use bits::accepted;
 use filter::RestorationFilter;
 use filter::default_filter;
 ghost use mathlib.Core.Path.{_≡_};
-ghost use Rattle.header.specs.Defaults.{defaultFront, defaultBack};
-ghost use Rattle.header.specs.Private.{Defaulted};
+ghost use Rattle.header.specs.Private.{defaultFront, defaultBack, Defaulted};
 
 // all_default to the frame's size: a regular VarDCT frame of one pass and the image's size.
 fn default_front(f: Facts) -> Front

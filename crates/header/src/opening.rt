@@ -11,7 +11,8 @@ use numbers::read_u64_if;
 use types::FrameFlags;
 ghost use mathlib.Core.Path.{_≡_};
 ghost use Rattle.bits.specs.Table.{read};
-ghost use Rattle.header.specs.Opening.{opening, openingRead, upsamplings};
+ghost use Rattle.header.specs.Opening.{opening, upsamplings};
+ghost use Rattle.header.specs.Private.{openingRead};
 
 pub struct Opening {
     pub all_default: u32,

@@ -15,7 +15,8 @@ ghost use mathlib.Core.Path.{_≡_};
 ghost use Prim.Native.Nat.{_-_};
 ghost use Rattle.bits.specs.Refusals.{pick};
 ghost use Rattle.bits.specs.Table.{read};
-ghost use Rattle.header.specs.Shape.{passCounts, downsamples, lastPasses, places, passes, passesRead, scales, scalesRead, placement, placementRead};
+ghost use Rattle.header.specs.Shape.{passCounts, downsamples, lastPasses, places, passes, scales, placement};
+ghost use Rattle.header.specs.Private.{passesRead, scalesRead, placementRead};
 
 pub struct Passes {
     pub num_passes: u32,

@@ -11,8 +11,8 @@ use borrow.Author.Tests.{ne-eqb}
 use Rattle.decimal.specs.declared.Digits.{Digits}
 use Rattle.decimal.specs.Decimal.{decimal, digitsOf}
 use Rattle.decimal.proofs.Spelling.{decimal-long}
-use Rattle.listing.specs.Put.{Put}
-use Rattle.listing.specs.Text.{joined, line, column, cells, kindName}
+use Rattle.listing.specs.Private.{Put, cells}
+use Rattle.listing.specs.Text.{joined, line, column, kindName}
 use Rattle.listing.proofs.Putting.{then, put-one, named, Leaves, leaves-all, leaves-less, leaves-none}
 
 -- the digits at the end of their bytes

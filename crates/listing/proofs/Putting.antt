@@ -7,7 +7,7 @@ use mathlib.Core.List.{List, [], _∷_, _++_}
 use lib.ListN.{length, set, length-append}
 use lib.Seq.{sets, length-sets}
 use Rattle.fill.proofs.Filling.{Filling, filling-none}
-use Rattle.listing.specs.Put.{Put}
+use Rattle.listing.specs.Private.{Put}
 
 pub sets-behind : (l : List ℕ) (i : ℕ) (a b : List ℕ) → sets (sets l i a) (i + length a) b ≡ sets l i (a ++ b)
 sets-behind l i [] b = ap (λ (k : ℕ). sets l k b) (add-zero i)

@@ -18,7 +18,8 @@ use Rattle.grid.specs.Measured.{gridOf}
 use Rattle.order.specs.Order.{checked, isOrder}
 use Rattle.order.specs.Sums.{sumTo}
 use Rattle.listing.specs.declared.TextAnswer.{TextAnswer}
-use Rattle.listing.specs.Put.{Put, Texted, fitted, answerBy}
+use Rattle.listing.specs.Put.{Texted, fitted, answerBy}
+use Rattle.listing.specs.Private.{Put}
 use Rattle.listing.specs.Text.{heading, rowsFrom, totalText}
 use Rattle.listing.specs.Listed.{rowAt, listing, listingText, listingRefusal}
 use Rattle.listing.proofs.Putting.{then, named}

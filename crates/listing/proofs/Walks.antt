@@ -8,8 +8,8 @@ use mathlib.Core.List.{List, [], _∷_, _++_}
 use lib.ListN.{length}
 use Rattle.decimal.specs.Decimal.{decimal}
 use Rattle.listing.specs.declared.rows.Row.{Row}
-use Rattle.listing.specs.Put.{Put}
-use Rattle.listing.specs.Text.{joined, column, cells, kindName, rowText, shownBy, numbersIn, rowsFrom}
+use Rattle.listing.specs.Private.{Put, cells, shownBy, numbersIn}
+use Rattle.listing.specs.Text.{joined, column, kindName, rowText, rowsFrom}
 use Rattle.listing.proofs.Putting.{then, named, Leaves, leaves-all, leaves-less, leaves-none}
 
 -- a line: its number, its kind's name, and its columns

@@ -1,3 +1,4 @@
 pub mod Put
 pub mod Text
 pub mod Listed
+pub mod Private

@@ -14,7 +14,7 @@ use Rattle.grid.specs.Groups.{rectFor}
 use Rattle.order.specs.Order.{checked}
 use Rattle.order.specs.Sums.{sumTo}
 use Rattle.sections.specs.declared.KindNumbers.{KindNumbers}
-use Rattle.sections.specs.Kinds.{numbersOf, kindOf}
+use Rattle.sections.specs.Kinds.{kindOf}
 use Rattle.listing.specs.declared.rows.Row.{Row}
 use Rattle.listing.specs.Text.{heading, rowsFrom, totalText}
 

@@ -1,5 +1,5 @@
 -- A text put into lent bytes from an index on.
-use Prim.Native.Nat.{ℕ, _+_}
+use Prim.Native.Nat.{ℕ}
 use mathlib.Core.Path.{_≡_}
 use mathlib.Core.List.{List}
 use lib.Dec.{eqb, leb}
@@ -8,11 +8,6 @@ use lib.Seq.{sets}
 use Rattle.bits.specs.declared.Refusal.{Refusal}
 use Rattle.bits.specs.Refusals.{pick, refusal, none}
 use Rattle.listing.specs.declared.TextAnswer.{TextAnswer}
-
--- each byte at its place, a place that the bytes haven't is passed over; next is the index behind the text
-pub record Put (before : List ℕ) (at : ℕ) (text after : List ℕ) (next : ℕ) : Type 0 where
-  pub bytes : after ≡ sets before at text
-  pub behind : next ≡ at + length text
 
 -- 3 where a text doesn't fit
 abbrev pub fitted : List ℕ → List ℕ → Refusal

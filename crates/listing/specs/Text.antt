@@ -1,6 +1,6 @@
 -- The listing's text: lines of columns with a tab between two, and a line feed after each line.
 use Prim.Native.Nat.{ℕ, zero, suc}
-use mathlib.Core.Bool.{Bool, true, _||_}
+use mathlib.Core.Bool.{Bool, _||_}
 use mathlib.Core.List.{List, [], _∷_, _++_}
 use lib.Dec.{eqb}
 use Rattle.bits.specs.declared.Refusal.{Refusal}
@@ -20,12 +20,6 @@ line first more = first ++ joined more
 -- a column with a number, or `-` (45) where it has nothing
 unfoldable pub column : Bool → ℕ → List ℕ
 column shown n = pick shown (decimal n) (45 ∷ [])
-
--- columns of numbers, each shown or not
-unfoldable pub cells : List Bool → List ℕ → List (List ℕ)
-cells shown [] = []
-cells [] (n ∷ numbers) = []
-cells (s ∷ shown) (n ∷ numbers) = column s n ∷ cells shown numbers
 
 -- the first line: `section`, `kind`, `pass`, `group`, `sent`, `offset`, `size`, `left`, `top`, `width`, `height`
 unfoldable pub heading : List ℕ
@@ -80,13 +74,6 @@ rowText r =
     ∷ column (hasRect (r .kind)) (r .rect .width)
     ∷ column (hasRect (r .kind)) (r .rect .height)
     ∷ [])
-
--- the columns behind the kind's name: whether each is shown, and its number
-unfoldable pub shownBy : ℕ → List Bool
-shownBy kind = hasPass kind ∷ hasGroup kind ∷ true ∷ true ∷ true ∷ hasRect kind ∷ hasRect kind ∷ hasRect kind ∷ hasRect kind ∷ []
-
-unfoldable pub numbersIn : Row → List ℕ
-numbersIn r = r .«pass_idx» ∷ r .«group_idx» ∷ r .sent ∷ r .offset ∷ r .size ∷ r .rect .left ∷ r .rect .top ∷ r .rect .width ∷ r .rect .height ∷ []
 
 -- n lines from section i on
 unfoldable pub rowsFrom : (ℕ → Row) → ℕ → ℕ → List ℕ

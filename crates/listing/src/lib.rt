@@ -16,7 +16,8 @@ ghost use Prim.Native.Nat.{_≤_};
 ghost use lib.ListN.{length};
 ghost use Rattle.bits.specs.Refusals.{none};
 ghost use Rattle.decimal.specs.Decimal.{decimal};
-ghost use Rattle.listing.specs.Put.{Put, Texted, fitted};
+ghost use Rattle.listing.specs.Put.{Texted, fitted};
+ghost use Rattle.listing.specs.Private.{Put};
 ghost use Rattle.listing.specs.Text.{line, heading, refusedText, orderText};
 ghost use Rattle.listing.specs.Listed.{listing, listingText, listingRefusal};
 

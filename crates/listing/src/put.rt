@@ -4,8 +4,8 @@ ghost use mathlib.Core.List.{[], _∷_};
 ghost use Prim.Native.Nat.{_+_, _*_, _≤_};
 ghost use lib.ListN.{length};
 ghost use Rattle.decimal.specs.Decimal.{decimal};
-ghost use Rattle.listing.specs.Put.{Put};
-ghost use Rattle.listing.specs.Text.{column, cells, joined, kindName};
+ghost use Rattle.listing.specs.Private.{Put, cells};
+ghost use Rattle.listing.specs.Text.{column, joined, kindName};
 
 pub fn put_bytes(out: &mut [u8], at: usize, text: &[u8]) -> usize
     requires { ⌜ at ≤ 4611686018427387904 ⌝ }

@@ -11,8 +11,8 @@ ghost use Prim.Native.Nat.{_+_, _≤_};
 ghost use lib.ListN.{getD};
 ghost use Rattle.grid.specs.Measured.{gridOf};
 ghost use Rattle.order.specs.Sums.{sumTo};
-ghost use Rattle.listing.specs.Put.{Put};
-ghost use Rattle.listing.specs.Text.{shownBy, numbersIn, rowText, rowsFrom};
+ghost use Rattle.listing.specs.Private.{Put, shownBy, numbersIn};
+ghost use Rattle.listing.specs.Text.{rowText, rowsFrom};
 ghost use Rattle.listing.specs.Listed.{rectBy, rowAt};
 
 // What a section's line shows: its number, its kind as a number, its words of the three tables and its rectangle; 0 where a column has nothing.

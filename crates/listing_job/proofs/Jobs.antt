@@ -21,7 +21,7 @@ use Rattle.order.proofs.Checked.{checked-good}
 use Rattle.header.specs.declared.Facts.{Facts}
 use Rattle.header.specs.declared.entry.HeaderAnswer.{HeaderAnswer}
 use Rattle.header.specs.Record.{numbersOf, frameOf}
-use Rattle.header.specs.Entry.{HeaderTold, told}
+use Rattle.header.specs.Entry.{told}
 use Rattle.toc.specs.declared.Toc.{Toc}
 use Rattle.toc.specs.declared.TocRead.{TocRead}
 use Rattle.toc.specs.declared.TocRead.the-variants.{Table, OrderNeeded, Refused}
@@ -32,7 +32,8 @@ use Rattle.listing.specs.Put.{Texted, fitted}
 use Rattle.listing.specs.Text.{refusedText, orderText}
 use Rattle.listing.specs.Listed.{listing, listingRefusal}
 use Rattle.listing_job.specs.declared.facts.FactsLine.{FactsLine}
-use Rattle.listing_job.specs.Line.{frameBytes, Lined}
+use Rattle.listing_job.specs.Line.{frameBytes}
+use Rattle.listing_job.specs.Private.{Lined}
 use Rattle.listing_job.specs.Job.{words, blank, readText, readingText, sectionsText, headed, headerText, jobText}
 
 -- the same text by another name

@@ -18,7 +18,8 @@ use Rattle.decimal.specs.UpTo.{behind, numberAt}
 use Rattle.decimal.proofs.Finding.{number-rest, number-within, numbered-small}
 use Rattle.header.specs.declared.Facts.{Facts}
 use Rattle.listing_job.specs.declared.facts.LineEnd.{LineEnd}
-use Rattle.listing_job.specs.Line.{limits, factsFrom, LineRead, withFirst, stopBefore, lineRead, Valued, Lined}
+use Rattle.listing_job.specs.Line.{limits, factsFrom, LineRead, withFirst, stopBefore, lineRead}
+use Rattle.listing_job.specs.Private.{Valued, Lined}
 
 -- ---- a line's numbers
 

@@ -1,16 +1,12 @@
 -- The facts line: numbers with a tab (9) behind each but the last, and a line feed (10) behind the last.
-use Prim.Native.Nat.{ℕ, _≤_}
-use mathlib.Core.Path.{_≡_}
+use Prim.Native.Nat.{ℕ}
 use mathlib.Core.Bool.{Bool, true, _&&_}
 use mathlib.Core.List.{List, [], _∷_}
 use lib.Dec.{eqb}
-use lib.ListN.{length, drop, getD}
-use lib.Seq.{sets}
+use lib.ListN.{getD}
 use Rattle.decimal.specs.declared.Parsed.{Parsed}
 use Rattle.decimal.specs.UpTo.{behind, numbered}
 use Rattle.header.specs.declared.Facts.{Facts}
-use Rattle.listing_job.specs.declared.facts.LineEnd.{LineEnd}
-use Rattle.listing_job.specs.declared.facts.FactsLine.{FactsLine}
 
 -- the most that each number may be: one of 32 bits, or a flag, 0 or 1
 unfoldable pub limits : List ℕ
@@ -57,17 +53,3 @@ factsOf text = factsFrom (lineRead limits text .values)
 
 abbrev pub frameBytes : List ℕ → List ℕ
 frameBytes text = lineRead limits text .rest
-
--- what the private functions promise. The numbers of a line:
-pub record Valued (s limits before : List ℕ) (r : LineEnd) (after : List ℕ) : Type 0 where
-  pub good : r .good ≡ lineRead limits s .good
-  pub values : after ≡ sets before 0 (lineRead limits s .values)
-  pub rest : drop (r .next) s ≡ lineRead limits s .rest
-  pub within : r .next ≤ length s
-
--- the facts line:
-pub record Lined (s : List ℕ) (r : FactsLine) : Type 0 where
-  pub good : r .good ≡ goodLine s
-  pub facts : r .facts ≡ factsOf s
-  pub rest : drop (r .next) s ≡ frameBytes s
-  pub within : r .next ≤ length s

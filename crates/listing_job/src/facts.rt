@@ -4,7 +4,7 @@ ghost use mathlib.Core.Path.{_≡_};
 ghost use Prim.Native.Nat.{_≤_};
 ghost use lib.Dec.{ltb};
 ghost use Rattle.bits.specs.Refusals.{pick};
-ghost use Rattle.listing_job.specs.Line.{Valued, Lined};
+ghost use Rattle.listing_job.specs.Private.{Valued, Lined};
 
 // How many numbers the line has.
 const COUNT: usize = 7;

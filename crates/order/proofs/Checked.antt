@@ -9,7 +9,8 @@ use lib.Dec.{ltb}
 use borrow.Author.Tests.{lt-ltb, le-ltb, ltb-true, ltb-false, eq-eqb, ne-eqb}
 use Rattle.bits.specs.declared.Refusal.{Refusal}
 use Rattle.bits.specs.Refusals.{refusal, none}
-use Rattle.order.specs.Order.{allBelow, distinct, isOrder, checked, Unmarked}
+use Rattle.order.specs.Order.{allBelow, distinct, isOrder, checked}
+use Rattle.order.specs.Private.{Unmarked}
 use Rattle.order.proofs.Entries.{split}
 
 abbrev pub number : Refusal → ℕ

@@ -8,7 +8,8 @@ use borrow.Author.Tests.{lt-ltb, le-ltb, eq-eqb, ne-eqb}
 use Rattle.bits.specs.declared.Refusal.{Refusal}
 use Rattle.bits.specs.Refusals.{refusal}
 use Rattle.order.specs.Order.{checked}
-use Rattle.order.specs.Tables.{placed, inverted, inverseAfter}
+use Rattle.order.specs.Tables.{inverted, inverseAfter}
+use Rattle.order.specs.Private.{placed}
 use Rattle.order.proofs.Checked.{number, accepted}
 use Rattle.order.proofs.Placed.{placed-inverse}
 

@@ -13,7 +13,8 @@ use lib.Dec.{eqb}
 use borrow.Author.Tests.{eq-eqb, ne-eqb}
 use Rattle.bits.specs.Refusals.{pick}
 use Rattle.bits.proofs.Bits.{and-left, and-right}
-use Rattle.order.specs.Order.{has, allBelow, distinct, Unmarked}
+use Rattle.order.specs.Order.{has, allBelow, distinct}
+use Rattle.order.specs.Private.{Unmarked}
 use Rattle.order.specs.Tables.{indexOf}
 use Rattle.order.proofs.Entries.{false-by, and-both, below-at, once, has-at, has-more, below-more, distinct-more}
 

@@ -13,7 +13,8 @@ use borrow.Author.Tests.{eqb-true, eqb-false, not-true}
 use Rattle.bits.specs.Refusals.{pick}
 use Rattle.bits.proofs.Bits.{and-left, and-right}
 use Rattle.order.specs.Order.{has, distinct, isOrder}
-use Rattle.order.specs.Tables.{tabulate, indexOf, inverseOf, filled, placedBy, placed}
+use Rattle.order.specs.Tables.{tabulate, indexOf, inverseOf, filled}
+use Rattle.order.specs.Private.{placedBy, placed}
 use Rattle.order.proofs.Entries.{split, false-by, has-at}
 use Rattle.order.proofs.Reach.{order-length, order-distinct, order-below, order-reaches}
 use Rattle.order.proofs.Tables.{length-tabulate, getD-tabulate, tabulate-ext, filled-by}

@@ -1,9 +1,8 @@
 -- What an order is, and what is refused of a lent one.
-use Prim.Native.Nat.{ℕ, _≤_, _<_}
-use mathlib.Core.Path.{_≡_}
+use Prim.Native.Nat.{ℕ}
 use mathlib.Core.List.{List, [], _∷_}
 use mathlib.Core.Bool.{Bool, true, false, not, _&&_, _||_}
-use lib.ListN.{length, getD}
+use lib.ListN.{length}
 use lib.Dec.{eqb, ltb}
 use Rattle.bits.specs.declared.Refusal.{Refusal}
 use Rattle.bits.specs.Refusals.{pick, refusal, none}
@@ -30,8 +29,3 @@ isOrder count l = eqb (length l) count && (allBelow count l && distinct l)
 -- 10 over 65,536 sections; then 13 exactly when the entries are no order
 unfoldable pub checked : ℕ → List ℕ → Refusal
 checked count l = pick (ltb 65536 count) (refusal 10 0) (pick (isOrder count l) none (refusal 13 0))
-
--- a mark for each of n numbers, none set
-pub record Unmarked (n : ℕ) (marks : List ℕ) : Type 0 where
-  pub room : n ≤ length marks
-  pub clear : (k : ℕ) → k < n → getD marks k 0 ≡ 0

@@ -1,7 +1,7 @@
 -- The tables that an order gives: its inverse, the identity, and what a lent table holds after it was filled.
 use Prim.Native.Nat.{ℕ, zero, suc}
 use mathlib.Core.List.{List, [], _∷_, _++_}
-use lib.ListN.{length, set, take, drop}
+use lib.ListN.{length, take, drop}
 use lib.Dec.{eqb, ltb}
 use Rattle.bits.specs.declared.Refusal.{Refusal}
 use Rattle.bits.specs.Refusals.{pick, refusal}
@@ -28,15 +28,6 @@ identity count = tabulate count (λ k. k)
 -- only used places are written: the first words are the new ones, as far as the table goes; the words behind them stay
 unfoldable pub filled : List ℕ → List ℕ → List ℕ
 filled new table = take (length table) new ++ drop (length new) table
-
--- the words f j, f (j + 1), .., each written at its place; a place that the table hasn't is passed over
-unfoldable pub placedBy : (ℕ → ℕ) → ℕ → List ℕ → List ℕ → List ℕ
-placedBy f j [] table = table
-placedBy f j (x ∷ places) table = placedBy f (suc j) places (set table x (f j))
-
--- the sections 0, 1, 2, .., each written at its sent number
-abbrev pub placed : List ℕ → List ℕ → List ℕ
-placed order table = placedBy (λ j. j) 0 order table
 
 -- 10, then 3 where the table is shorter than count, then 13
 unfoldable pub inverted : ℕ → List ℕ → List ℕ → Refusal

@@ -5,7 +5,8 @@ ghost use mathlib.Core.Path.{_≡_};
 ghost use mathlib.Core.Bool.{_&&_};
 ghost use Prim.Native.Nat.{_≤_};
 ghost use lib.ListN.{length};
-ghost use Rattle.order.specs.Order.{allBelow, distinct, isOrder, checked, Unmarked};
+ghost use Rattle.order.specs.Order.{allBelow, distinct, isOrder, checked};
+ghost use Rattle.order.specs.Private.{Unmarked};
 ghost use Rattle.order.specs.Numbers.{entryAt, sentOf, sectionOf};
 
 // The number of a section in the frame's own sequence: LfGlobal, LfGroups, HfGlobal, then for each pass its groups.

@@ -27,11 +27,10 @@ use Rattle.toc.specs.declared.Toc.{Toc}
 use Rattle.toc.specs.declared.TocRead.{TocRead}
 use Rattle.toc.specs.declared.TocRead.the-variants.{Table, OrderNeeded, Refused}
 use Rattle.toc.specs.Sizes.{Sent, sizeRows, tocRows, sentBefore}
-use Rattle.toc.specs.Private.{sizeAt, padded, walked}
+use Rattle.toc.specs.Private.{sizeAt, padded, walked, Room}
 use Rattle.toc.specs.Reading.{Tables, roomy, judged, judgedOrder, TocNumbers, tocNumbers, Reading, tocOf, sizedAnswer, firstRead, secondRead, refusedRead, firstReading, secondReading, tablesOf, written, after}
 use Rattle.sections.proofs.Counts.{Counts, counts}
 use Rattle.toc.proofs.Walking.{size-small, rows-read}
-use Rattle.toc.specs.Private.{Room}
 use Rattle.toc.proofs.Judging.{Fair, judged-fair}
 use Rattle.toc.proofs.Entering.{sized-reading, fair, roomed, first-refused, first-needed, first-is}
 

@@ -20,7 +20,8 @@ use Rattle.grid.specs.declared.Frame.{Frame}
 use Rattle.grid.specs.declared.Grid.{Grid}
 use Rattle.grid.specs.Measured.{gridOf}
 use Rattle.order.specs.Order.{isOrder, checked}
-use Rattle.order.specs.Tables.{tabulate, identity, inverseOf, filled, placed, placedBy}
+use Rattle.order.specs.Tables.{tabulate, identity, inverseOf, filled}
+use Rattle.order.specs.Private.{placed, placedBy}
 use Rattle.order.proofs.Checked.{number, accepted}
 use Rattle.order.proofs.Reach.{order-length}
 use Rattle.order.proofs.Inverse.{identity-inverse}
@@ -30,8 +31,8 @@ use Rattle.toc.specs.declared.Toc.{Toc}
 use Rattle.toc.specs.declared.TocRead.{TocRead}
 use Rattle.toc.specs.declared.TocRead.the-variants.{Table, OrderNeeded, Refused}
 use Rattle.toc.specs.Sizes.{Sent, sizeRows, tocRows}
-use Rattle.toc.specs.Private.{sizeAt, offsetAt, padded, walked, Room, orderBy}
-use Rattle.toc.specs.Reading.{tocNumbers, Tables, roomy, judgedBy, judged, judgedOrder, Reading, tocOf, sizedAnswer, firstRead, secondRead, sizedReading, refusedRead, firstReading, secondReading, tablesOf, written, after, Done}
+use Rattle.toc.specs.Private.{sizeAt, offsetAt, padded, walked, Room, orderBy, sizedReading}
+use Rattle.toc.specs.Reading.{tocNumbers, Tables, roomy, judgedBy, judged, judgedOrder, Reading, tocOf, sizedAnswer, firstRead, secondRead, refusedRead, firstReading, secondReading, tablesOf, written, after, Done}
 use Rattle.toc.proofs.Walking.{rows-read}
 use Rattle.toc.proofs.Judging.{room-parts, Fair, judged-fair}
 use Rattle.toc.proofs.Filling.{sent-before, placed-by-section, offsets-by, sizes-by}

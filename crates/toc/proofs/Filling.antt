@@ -8,7 +8,8 @@ use lib.ListN.{length, getD, take, drop}
 use lib.Seq.{take-all, take-at}
 use Rattle.bits.specs.declared.Cursor.{Cursor}
 use Rattle.order.specs.Order.{isOrder}
-use Rattle.order.specs.Tables.{tabulate, inverseOf, filled, placedBy}
+use Rattle.order.specs.Tables.{tabulate, inverseOf, filled}
+use Rattle.order.specs.Private.{placedBy}
 use Rattle.order.specs.Sums.{sumTo}
 use Rattle.order.proofs.Sums.{sum-ext}
 use Rattle.order.proofs.Reach.{order-below}

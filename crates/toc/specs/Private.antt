@@ -16,7 +16,9 @@ use Rattle.order.specs.Sums.{sumTo}
 use Rattle.toc.specs.declared.reading.Summed.{Summed}
 use Rattle.toc.specs.declared.reading.Pair.{Pair}
 use Rattle.toc.specs.declared.reading.Walk.{Walk}
-use Rattle.toc.specs.Sizes.{sizeChoices}
+use Rattle.toc.specs.Sizes.{sizeChoices, sizeRows}
+use Rattle.bits.specs.Table.{read}
+use Rattle.toc.specs.Reading.{Reading, secondRead}
 
 -- the cursor after k sizes
 unfoldable pub cursorAt : List ℕ → Cursor → ℕ → Cursor
@@ -67,3 +69,7 @@ pub record Room (count o s p i : ℕ) : Type 0 where
 -- the order that is lent, or the identity
 abbrev pub orderBy : Bool → List ℕ → ℕ → List ℕ
 orderBy given lent count = pick given lent (identity count)
+
+-- from the padding at c on, with an order
+unfoldable pub sizedReading : List ℕ → Cursor → ℕ → List ℕ → Reading
+sizedReading s c count l = secondRead count l (read (sizeRows count) s c)

@@ -100,10 +100,6 @@ firstRead count out = record {
 unfoldable pub secondRead : ℕ → List ℕ → Out (List ℕ) → Reading
 secondRead count lent out = record { answer = sizedAnswer count (out .value) (out .next); order = lent; sizes = out .value }
 
--- from the padding at c on, with an order
-unfoldable pub sizedReading : List ℕ → Cursor → ℕ → List ℕ → Reading
-sizedReading s c count l = secondRead count l (read (sizeRows count) s c)
-
 -- a refusal, beside which there is no table
 unfoldable pub refusedRead : Refusal → Reading
 refusedRead r = record { answer = Refused r; order = []; sizes = [] }

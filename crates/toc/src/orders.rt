@@ -4,7 +4,8 @@ ghost use mathlib.Core.Bool.{true};
 ghost use Prim.Native.Nat.{_≤_};
 ghost use lib.ListN.{length, take};
 ghost use Rattle.order.specs.Order.{isOrder};
-ghost use Rattle.order.specs.Tables.{identity, inverseOf, filled, placed, inverted, inverseAfter};
+ghost use Rattle.order.specs.Tables.{identity, inverseOf, filled, inverted, inverseAfter};
+ghost use Rattle.order.specs.Private.{placed};
 ghost use Rattle.toc.specs.Private.{orderBy};
 
 // The first count words become 0, 1, 2, .., as far as the table goes: both orders of a table that is not permuted.

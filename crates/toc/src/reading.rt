@@ -12,15 +12,15 @@ use bits::View;
 use grid::Frame;
 use grid::Grid;
 ghost use mathlib.Core.Path.{_≡_};
-ghost use Rattle.toc.specs.Reading.{Done, tables, roomFor, judgedBy, sizedReading, firstReading, secondReading};
+ghost use Rattle.toc.specs.Reading.{Done, tables, roomFor, judgedBy, firstReading, secondReading};
+ghost use Rattle.toc.specs.Private.{sizedReading, summed, walked, sizeAt, offsetAt, seenSize, Two, Room, orderBy};
 ghost use mathlib.Core.Bool.{true, false};
 ghost use Prim.Native.Nat.{_+_, _≤_, _<_};
 ghost use lib.ListN.{length, take};
 ghost use Rattle.bits.specs.Codec.{u32, chosen, field};
 ghost use Rattle.order.specs.Order.{isOrder};
-ghost use Rattle.order.specs.Tables.{inverseOf, filled, placedBy};
+ghost use Rattle.order.specs.Private.{placedBy};
 ghost use Rattle.toc.specs.Sizes.{sizeChoices};
-ghost use Rattle.toc.specs.Private.{summed, walked, sizeAt, offsetAt, seenSize, Two, Room, orderBy};
 
 // Whether each of four tables has a word for each section.
 fn has_room(count: u32, offsets: usize, sizes: usize, order: usize, inverse: usize) -> bool

@@ -1,6 +1,6 @@
 -- One call a row.
 use borrow.Author.Needs.{needs}
-use Rattle.header.specs.Blending.{blendingRead}
+use Rattle.header.specs.Private.{blendingRead}
 use mathlib.Core.Path.{_∙_, ap}
 use Rattle.header.proofs.Bundles.{blending-law}
 use Rattle.header.proofs.blending.read_blending_fields.Statement.{statement}

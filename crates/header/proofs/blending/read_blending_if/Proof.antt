@@ -1,6 +1,6 @@
 -- Out of one look ahead, or field by field.
 use mathlib.Core.Path.{refl, ap}
-use Rattle.header.specs.Blending.{blendingRead}
+use Rattle.header.specs.Private.{blendingRead}
 use Rattle.header.proofs.Bundles.{blending-seen}
 use borrow.Author.Needs.{needs}
 use Rattle.header.proofs.blending.read_blending_if.Statement.{statement}

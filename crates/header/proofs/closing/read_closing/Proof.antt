@@ -1,6 +1,6 @@
 -- One call a row.
 use borrow.Author.Needs.{needs}
-use Rattle.header.specs.Closing.{closingRead}
+use Rattle.header.specs.Private.{closingRead}
 use mathlib.Core.Path.{_∙_, ap}
 use Rattle.header.proofs.Bundles.{closing-law}
 use Rattle.header.proofs.closing.read_closing.Statement.{statement}

@@ -1,6 +1,6 @@
 -- `default_back`: the defaults, both filters among them.
 use borrow.Author.Needs.{needs}
-use Rattle.header.specs.Defaults.{defaultBack}
+use Rattle.header.specs.Private.{defaultBack}
 use Rattle.header.proofs.defaults.default_back.Statement.{statement}
 use Rattle.header.proofs.defaults.default_back.Tie as tie
 

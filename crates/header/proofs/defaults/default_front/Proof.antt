@@ -1,6 +1,6 @@
 -- `default_front`: the defaults, the scale of x by whether the image is XYB.
 use borrow.Author.Needs.{needs}
-use Rattle.header.specs.Defaults.{defaultFront}
+use Rattle.header.specs.Private.{defaultFront}
 use Rattle.header.proofs.defaults.default_front.Statement.{statement}
 use Rattle.header.proofs.defaults.default_front.Tie as tie
 

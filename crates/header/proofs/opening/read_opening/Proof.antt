@@ -1,6 +1,6 @@
 -- One call a row.
 use borrow.Author.Needs.{needs}
-use Rattle.header.specs.Opening.{openingRead}
+use Rattle.header.specs.Private.{openingRead}
 use mathlib.Core.Path.{_∙_, ap}
 use Rattle.header.proofs.Bundles.{opening-law}
 use Rattle.header.proofs.opening.read_opening.Statement.{statement}

@@ -1,7 +1,7 @@
 -- One call a row; a level is at most 3 before one is added.
 use borrow.Author.Needs.{needs}
 use native.Mathlib.Omega.{arith}
-use Rattle.header.specs.Shape.{placementRead}
+use Rattle.header.specs.Private.{placementRead}
 use mathlib.Core.Path.{_∙_, ap}
 use Rattle.header.proofs.Bundles.{placement-law, bits-below}
 use Rattle.header.proofs.shape.read_placement.Statement.{statement}

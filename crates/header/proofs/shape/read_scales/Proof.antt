@@ -1,6 +1,6 @@
 -- One call a row.
 use borrow.Author.Needs.{needs}
-use Rattle.header.specs.Shape.{scalesRead}
+use Rattle.header.specs.Private.{scalesRead}
 use mathlib.Core.Path.{_∙_, ap}
 use Rattle.header.proofs.Bundles.{scales-law}
 use Rattle.header.proofs.shape.read_scales.Statement.{statement}

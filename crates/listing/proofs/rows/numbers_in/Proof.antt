@@ -1,7 +1,7 @@
 -- `numbers_in`: each number as it stands in the row.
 use borrow.Author.Needs.{needs}
 use mathlib.Core.Path.{refl}
-use Rattle.listing.specs.Text.{numbersIn}
+use Rattle.listing.specs.Private.{numbersIn}
 use Rattle.listing.proofs.rows.numbers_in.Statement.{statement}
 use Rattle.listing.proofs.rows.numbers_in.Tie as tie
 

@@ -1,6 +1,6 @@
 -- `shown_by`: the tests of its definition.
 use borrow.Author.Needs.{needs}
-use Rattle.listing.specs.Text.{shownBy}
+use Rattle.listing.specs.Private.{shownBy}
 use Rattle.listing.proofs.rows.shown_by.Statement.{statement}
 use Rattle.listing.proofs.rows.shown_by.Tie as tie
 

@@ -1,9 +1,7 @@
 -- `read_toc`: one law for each way out.
 use borrow.Author.Needs.{needs}
-use mathlib.Core.Path.{ap}
 use Rattle.order.proofs.Inverse.{identity-order}
-use Rattle.toc.specs.declared.TocRead.{TocRead}
-use Rattle.toc.specs.Reading.{Reading, tables, Done}
+use Rattle.toc.specs.Reading.{tables}
 use Rattle.toc.proofs.Entering.{roomed, first-refused, first-needed, first-is}
 use Rattle.toc.proofs.reading.read_toc.Statement.{statement}
 use Rattle.toc.proofs.reading.read_toc.Tie as tie
