@@ -10,7 +10,7 @@ use Rattle.bits.specs.declared.Field.{Field}
 use Rattle.bits.specs.Refusals.{pick, refusal, start, clear}
 use Rattle.bits.specs.Bits.{bitsAt, bitCount, there}
 use Rattle.bits.specs.Half.{exponent}
-use Rattle.bits.specs.Steps.{Steps, gives, refuses, takes, passes, cut, cutAt, run}
+use Rattle.bits.specs.Steps.{Steps, gives, refuses, takes, skips, cut, cutAt, run}
 use Rattle.bits.specs.Codec.{Codec, u, bool, u32, cases, u64, f16, padding, skip, steps, chosen, more, field}
 use Rattle.bits.specs.Table.{Table, ends, row, fails, failed, read, bind, within, times}
 use Rattle.bits.specs.Extensions.{lengths, extensions}
@@ -25,7 +25,7 @@ abbrev Low : Steps → Type 0
 Low (gives v) = Unit {0}
 Low (refuses n) = n ≤ 14
 Low (takes n f) = (v : ℕ) → Low (f v)
-Low (passes n t) = Low t
+Low (skips n t) = Low t
 
 low-more : (k v : ℕ) → Low (more k v)
 unfolding more
@@ -53,7 +53,7 @@ run-low (gives v) h s p q = omega arith
 run-low (refuses n) h s p q = h
 run-low (takes n f) h s p q =
     of-both (λ (r : Field). r .next .fault .number ≤ 14) (there s q n) (run (f (bitsAt s q n)) s p (q + n)) (cutAt s p (q + n)) (run-low (f (bitsAt s q n)) (h (bitsAt s q n)) s p (q + n)) (omega arith)
-run-low (passes n t) h s p q =
+run-low (skips n t) h s p q =
     of-both (λ (r : Field). r .next .fault .number ≤ 14) (leb (q + n) (bitCount s)) (run t s p (q + n)) (cutAt s p (q + n)) (run-low t h s p (q + n)) (omega arith)
 
 pub field-low : (s : List ℕ) (on : Bool) (k : Codec) (d : ℕ) (c : Cursor) → c .fault .number ≤ 14 → field s on k d c .next .fault .number ≤ 14
@@ -86,7 +86,7 @@ run-near (gives v) s p q h = omega arith
 run-near (refuses n) s p q h = h
 run-near (takes n f) s p q h =
     of-both (λ (r : Field). r .next .fault .place ≤ bitCount s) (there s q n) (run (f (bitsAt s q n)) s p (q + n)) (cutAt s p (q + n)) (run-near (f (bitsAt s q n)) s p (q + n) h) h
-run-near (passes n t) s p q h =
+run-near (skips n t) s p q h =
     of-both (λ (r : Field). r .next .fault .place ≤ bitCount s) (leb (q + n) (bitCount s)) (run t s p (q + n)) (cutAt s p (q + n)) (run-near t s p (q + n) h) h
 
 pub field-near : (s : List ℕ) (on : Bool) (k : Codec) (d : ℕ) (c : Cursor) → c .at ≤ bitCount s → c .fault .place ≤ bitCount s → field s on k d c .next .fault .place ≤ bitCount s

@@ -14,7 +14,7 @@ use Rattle.bits.specs.declared.Field.{Field}
 use Rattle.bits.specs.Refusals.{pick, refusal, start, clear}
 use Rattle.bits.specs.Bits.{bitAt, bitsAt, bitCount, there}
 use Rattle.bits.specs.Half.{exponent}
-use Rattle.bits.specs.Steps.{Steps, gives, refuses, takes, passes, cut, cutAt, run}
+use Rattle.bits.specs.Steps.{Steps, gives, refuses, takes, skips, cut, cutAt, run}
 use Rattle.bits.specs.Codec.{Codec, u, bool, u32, cases, u64, f16, padding, skip, steps, chosen, more, field}
 use Rattle.bits.specs.Table.{Table, ends, row, fails, Out, failed, read}
 use Rattle.bits.proofs.Bits.{bits-lt, there-parts}
@@ -53,7 +53,7 @@ run-within (takes n f) s p q hp hq =
     picked (λ (r : Field). r .next .at ≤ bitCount s) (there s q n) (run (f (bitsAt s q n)) s p (q + n)) (cutAt s p (q + n))
     (λ h. run-within (f (bitsAt s q n)) s p (q + n) hp (there-parts s q n h .1))
     (λ h. hp)
-run-within (passes n t) s p q hp hq =
+run-within (skips n t) s p q hp hq =
     picked (λ (r : Field). r .next .at ≤ bitCount s) (leb (q + n) (bitCount s)) (run t s p (q + n)) (cutAt s p (q + n))
     (λ h. run-within t s p (q + n) hp (leb-true (q + n) (bitCount s) h))
     (λ h. hp)
@@ -115,7 +115,7 @@ abbrev Fair : Steps → Type 0
 Fair (gives v) = Unit {0}
 Fair (refuses n) = n ≡ 0 → ⊥
 Fair (takes n f) = (v : ℕ) → Fair (f v)
-Fair (passes n t) = Fair t
+Fair (skips n t) = Fair t
 
 fair-pick : (b : Bool) (x y : Steps) → Fair x → Fair y → Fair (pick b x y)
 fair-pick true x y h k = h
@@ -151,7 +151,7 @@ forward (takes n g) f s p q r e h =
     (λ t y. let l : q + n ≤ r .next .at = forward (g (bitsAt s q n)) (f (bitsAt s q n)) s p (q + n) r y h in omega arith)
     (λ t y. absurd (false≢true (rw (← y) at h)))
     e
-forward (passes n t) f s p q r e h =
+forward (skips n t) f s p q r e h =
     picked (λ (x : Field). x ≡ r → q ≤ r .next .at) (leb (q + n) (bitCount s)) (run t s p (q + n)) (cutAt s p (q + n))
     (λ i y. let l : q + n ≤ r .next .at = forward t f s p (q + n) r y h in omega arith)
     (λ i y. absurd (false≢true (rw (← y) at h)))
@@ -186,8 +186,8 @@ module _ (s s' : List ℕ) (p p' : ℕ) (r : Field) (ok : clear (r .next) ≡ tr
       rw (room, ← same) (rest ∙ rw sum))
       (λ t y. absurd (false≢true (rw (← y) at ok)))
       e
-  run-same (passes n t) f q q' e h l =
-      picked (λ (x : Field). x ≡ r → run (passes n t) s' p' q' ≡ record { value = r .value; next = start (q' + (r .next .at - q)) }) (leb (q + n) (bitCount s)) (run t s p (q + n)) (cutAt s p (q + n))
+  run-same (skips n t) f q q' e h l =
+      picked (λ (x : Field). x ≡ r → run (skips n t) s' p' q' ≡ record { value = r .value; next = start (q' + (r .next .at - q)) }) (leb (q + n) (bitCount s)) (run t s p (q + n)) (cutAt s p (q + n))
       (λ i y.
       let past : q + n ≤ r .next .at = forward t f s p (q + n) r y ok in
       let room : leb (q' + n) (bitCount s') ≡ true = le-leb (q' + n) (bitCount s') (omega arith) in

@@ -11,7 +11,7 @@ use Rattle.bits.specs.declared.Field.{Field}
 use Rattle.bits.specs.Refusals.{clear}
 use Rattle.bits.specs.Bits.{bitsAt, bitCount, there}
 use Rattle.bits.specs.Half.{exponent}
-use Rattle.bits.specs.Steps.{Steps, gives, refuses, takes, passes, cutAt, run}
+use Rattle.bits.specs.Steps.{Steps, gives, refuses, takes, skips, cutAt, run}
 use Rattle.bits.specs.Codec.{Codec, u, bool, cases, f16, chosen, steps, field}
 use Rattle.bits.proofs.Bits.{bits-lt}
 use Rattle.bits.proofs.Reading.{picked}
@@ -21,7 +21,7 @@ unfoldable pub Gives : (ℕ → Type 0) → Steps → Type 0
 Gives P (gives v) = P v
 Gives P (refuses number) = Unit {0}
 Gives P (takes n rest) = (x : ℕ) → x < 2 ^ n → Gives P (rest x)
-Gives P (passes n rest) = Gives P rest
+Gives P (skips n rest) = Gives P rest
 
 module _ (P : ℕ → Type 0) (zero : P 0) (s : List ℕ) where
   pub run-gives : (t : Steps) (p q : ℕ) → Gives P t → P (run t s p q .value)
@@ -31,7 +31,7 @@ module _ (P : ℕ → Type 0) (zero : P 0) (s : List ℕ) where
   run-gives (takes n rest) p q h =
       picked (λ (r : Field). P (r .value)) (there s q n) (run (rest (bitsAt s q n)) s p (q + n)) (cutAt s p (q + n))
       (λ e. run-gives (rest (bitsAt s q n)) p (q + n) (h (bitsAt s q n) (bits-lt s q n))) (λ e. zero)
-  run-gives (passes n rest) p q h =
+  run-gives (skips n rest) p q h =
       picked (λ (r : Field). P (r .value)) (leb (q + n) (bitCount s)) (run rest s p (q + n)) (cutAt s p (q + n)) (λ e. run-gives rest p (q + n) h) (λ e. zero)
 
   pub field-gives : (on : Bool) (k : Codec) (d : ℕ) (c : Cursor) → P d → Gives P (steps k (c .at)) → P (field s on k d c .value)

@@ -10,7 +10,7 @@ use Rattle.bits.specs.declared.Wide.{Wide}
 use Rattle.bits.specs.declared.Choice.{Choice}
 use Rattle.bits.specs.declared.Choices.{Choices}
 use Rattle.bits.specs.Refusals.{pick, clear}
-use Rattle.bits.specs.Steps.{Steps, gives, refuses, takes, passes, run}
+use Rattle.bits.specs.Steps.{Steps, gives, refuses, takes, skips, run}
 use Rattle.bits.specs.Half.{exponent}
 
 pub data Codec : Type 0 where
@@ -72,7 +72,7 @@ steps (cases d n) p = choice d λ v. pick (leb n v) (refuses 5) (gives v)
 steps u64 p = takes 2 long
 steps f16 p = takes 16 λ h. pick (eqb (exponent h) 31) (refuses 6) (gives h)
 steps padding p = takes ((8 - p % 8) % 8) λ x. pick (eqb x 0) (gives 0) (refuses 12)
-steps (skip n) p = passes n (gives 0)
+steps (skip n) p = skips n (gives 0)
 
 -- the field where it is asked for and nothing was refused before it; else the default, and the cursor as it was
 unfoldable pub field : List ℕ → Bool → Codec → ℕ → Cursor → Field

@@ -10,12 +10,12 @@ use Rattle.bits.specs.declared.pieces.Piece.{Piece}
 use Rattle.bits.specs.Refusals.{pick, refusal, start}
 use Rattle.bits.specs.Bits.{bitsAt, bitCount, there}
 
--- gives a value; refuses with a number; takes so many bits and goes on by their value; passes so many bits over and goes on
+-- gives a value; refuses with a number; takes so many bits and goes on by their value; skips so many bits and goes on
 pub data Steps : Type 0 where
   gives : ℕ → Steps
   refuses : ℕ → Steps
   takes : ℕ → (ℕ → Steps) → Steps
-  passes : ℕ → Steps → Steps
+  skips : ℕ → Steps → Steps
 
 -- a field that begins at p is refused there, whichever part of it is at fault
 abbrev pub stopped : ℕ → ℕ → Cursor
@@ -36,7 +36,7 @@ unfoldable pub run : Steps → List ℕ → ℕ → ℕ → Field
 run (gives v) s p q = record { value = v; next = start q }
 run (refuses number) s p q = refusedAt number p
 run (takes n rest) s p q = pick (there s q n) (run (rest (bitsAt s q n)) s p (q + n)) (cutAt s p (q + n))
-run (passes n rest) s p q = pick (leb (q + n) (bitCount s)) (run rest s p (q + n)) (cutAt s p (q + n))
+run (skips n rest) s p q = pick (leb (q + n) (bitCount s)) (run rest s p (q + n)) (cutAt s p (q + n))
 
 -- one piece of a field, if it is there
 unfoldable pub piece : List ℕ → ℕ → ℕ → Piece

@@ -15,7 +15,7 @@ use Rattle.header.specs.declared.Facts.{Facts}
 use Rattle.header.specs.declared.shape.Passes.{Passes}
 use Rattle.header.specs.Blending.{words}
 use Rattle.header.specs.Record.{HeaderNumbers}
-use Rattle.header.specs.Entry.{badFacts, judged, stands, HeaderTold, answered, kept}
+use Rattle.header.specs.Entry.{badFacts, judged, stands, HeaderTold, answered, bufferAfter}
 use Rattle.c_words.specs.Status.{statusOf}
 use Rattle.c_words.specs.Records.{bit}
 
@@ -135,8 +135,8 @@ judgedAll s f b =
 
 -- what the entry promises: the status and every lent slice; on a refusal all six are as they were
 pub record HeadRead (f : Facts) (s : List ℕ) (word : ℕ) (before after : Buffers) : Type 0 where
-  pub named : after .name ≡ kept (judgedAll s f before) (stands f s) (stands f s .value .name) (before .name)
-  pub upsampled : after .upsampling ≡ kept (judgedAll s f before) (stands f s) (stands f s .value .upsampling) (before .upsampling)
-  pub blended : after .blending ≡ kept (judgedAll s f before) (stands f s) (words (stands f s .value .blending)) (before .blending)
+  pub named : after .name ≡ bufferAfter (judgedAll s f before) (stands f s) (stands f s .value .name) (before .name)
+  pub upsampled : after .upsampling ≡ bufferAfter (judgedAll s f before) (stands f s) (stands f s .value .upsampling) (before .upsampling)
+  pub blended : after .blending ≡ bufferAfter (judgedAll s f before) (stands f s) (words (stands f s .value .blending)) (before .blending)
   pub recorded :
       HandedOut (answered f (judgedAll s f before) (stands f s)) word (before .numbers) (after .numbers) (before .signs) (after .signs) (before .reals) (after .reals)

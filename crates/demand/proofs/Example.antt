@@ -27,7 +27,7 @@ use Rattle.header.specs.Arrays.{element}
 use Rattle.header.specs.Blending.{coversSide, coversImage, sourceDecider, hasSource, blending, words}
 use Rattle.header.specs.Closing.{closing}
 use Rattle.header.specs.declared.entry.HeaderAnswer.{HeaderAnswer}
-use Rattle.header.specs.Entry.{judged, stands, refusedHeader, answered, kept, Headed, HeaderTold, told}
+use Rattle.header.specs.Entry.{judged, stands, refusedHeader, answered, bufferAfter, Headed, HeaderTold, told}
 use Rattle.header.specs.Record.{headerOf, frameOf}
 use Rattle.order.specs.Order.{isOrder, checked, allBelow, distinct, has as occurs}
 use Rattle.order.specs.Sums.{sumTo}
@@ -65,7 +65,7 @@ abbrev a : HeaderTold
 a = told r
 
 abbrev held : List ℕ → List ℕ → List ℕ
-held new buffer = kept before h new buffer
+held new buffer = bufferAfter before h new buffer
 
 asked :
     Headed (facts 300 100) listed r name (held (h .value .name) name) [] (held (h .value .upsampling) []) [] (held (words (h .value .blending)) [])

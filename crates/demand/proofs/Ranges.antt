@@ -14,7 +14,7 @@ use Rattle.bits.specs.declared.Choices.{Choices}
 use Rattle.bits.specs.Refusals.{pick, refusal, clear}
 use Rattle.bits.specs.Bits.{bitsAt, bitCount, there}
 use Rattle.bits.specs.Half.{exponent}
-use Rattle.bits.specs.Steps.{Steps, gives, refuses, takes, passes, cut, cutAt, run}
+use Rattle.bits.specs.Steps.{Steps, gives, refuses, takes, skips, cut, cutAt, run}
 use Rattle.bits.specs.Codec.{Codec, u, bool, u32, cases, u64, f16, padding, skip, steps, chosen, more, field}
 use Rattle.bits.specs.Table.{Table, ends, row, fails, failed, read, bind, within, times}
 use Rattle.bits.specs.Extensions.{lengths, extensions}
@@ -94,7 +94,7 @@ abbrev Stops : Steps → Type 0
 Stops (gives v) = Unit {0}
 Stops (refuses n) = Own n
 Stops (takes n f) = (v : ℕ) → Stops (f v)
-Stops (passes n t) = Stops t
+Stops (skips n t) = Stops t
 
 stops-more : (k v : ℕ) → Stops (more k v)
 unfolding more
@@ -128,7 +128,7 @@ run-own (refuses n) h s p q = h
 run-own (takes n f) h s p q =
     of-both Owned (there s q n) (run (f (bitsAt s q n)) s p (q + n)) (cutAt s p (q + n)) (run-own (f (bitsAt s q n)) (h (bitsAt s q n)) s p (q + n))
     (inl (omega arith))
-run-own (passes n t) h s p q =
+run-own (skips n t) h s p q =
     of-both Owned (leb (q + n) (bitCount s)) (run t s p (q + n)) (cutAt s p (q + n)) (run-own t h s p (q + n)) (inl (omega arith))
 
 field-own : (s : List ℕ) (on : Bool) (k : Codec) (d : ℕ) (c : Cursor) → Own (c .fault .number) → Owned (field s on k d c)

@@ -32,7 +32,7 @@ use Rattle.header.specs.Shape.{passCounts, downsamples, lastPasses, pass
 use Rattle.header.specs.Blending.{coversImage, resets, byOwn, sourceDecider, blending}
 use Rattle.header.specs.Private.{extras}
 use Rattle.header.specs.Closing.{closing}
-use Rattle.header.specs.Header.{Header, Begun, Ended, sentUpsampling, shown, noBlending, front, back, header}
+use Rattle.header.specs.Header.{Header, Begun, Ended, sentUpsampling, sendsBlending, noBlending, front, back, header}
 use Rattle.header.proofs.Walks.{array-any}
 use Rattle.header.proofs.Whole.{channels-any}
 
@@ -197,10 +197,10 @@ module _ (f : Facts) (s : List ℕ) (c : Cursor) where
 
 module _ (f : Facts) (o : Opening) (p : Placement) (s : List ℕ) (c : Cursor) where
   abbrev colour : Out Blending
-  colour = read (blending (shown o) (not (eqb (f .extra) 0)) (coversImage f p) byOwn) s c
+  colour = read (blending (sendsBlending o) (not (eqb (f .extra) 0)) (coversImage f p) byOwn) s c
 
   abbrev channels : Out (List Blending)
-  channels = read (extras (shown o) (f .extra) (coversImage f p) (sourceDecider f (colour .value .mode))) s (colour .next)
+  channels = read (extras (sendsBlending o) (f .extra) (coversImage f p) (sourceDecider f (colour .value .mode))) s (colour .next)
 
   abbrev closed : Out Closing
   closed = read (closing f o (resets (colour .value .mode) (coversImage f p))) s (channels .next)
@@ -239,7 +239,7 @@ module _ (f : Facts) (o : Opening) (p : Placement) (s : List ℕ) (c : Cursor) w
   -- an extra channel's numbers stand in one element, and then the rest
   module _ (at : ℕ → Header → Blending) (h : Header) (is : (i : ℕ) → i < f .extra → at i h ≡ getD (channels .value) i noBlending) where
     abbrev own : Table Blending Blending
-    own = blending (shown o) true (coversImage f p) (sourceDecider f (colour .value .mode))
+    own = blending (sendsBlending o) true (coversImage f p) (sourceDecider f (colour .value .mode))
 
     channels-read : read (times (f .extra) 0 (λ i. within (at i) own)) s (colour .next) ≡ channels
     channels-read = channels-any at own (f .extra) 0 s (colour .next)
@@ -248,7 +248,7 @@ module _ (f : Facts) (o : Opening) (p : Placement) (s : List ℕ) (c : Cursor) w
     channels-columns =
         columns-times (λ i. within (at i) own) s h (Unit {0}) (λ i. at i h) noBlending
         (λ j c here.
-        columns-within (at j) own s c h (rw (here tt, read-within (at j) own s c) (blending-columns s c (shown o) true (coversImage f p) (sourceDecider f (colour .value .mode)))))
+        columns-within (at j) own s c h (rw (here tt, read-within (at j) own s c) (blending-columns s c (sendsBlending o) true (coversImage f p) (sourceDecider f (colour .value .mode)))))
         (f .extra) 0 (colour .next)
         (λ known k l. ap (λ (j : ℕ). at j h) (zero-add k) ∙ is k l ∙ ap (λ (x : Out (List Blending)). getD (x .value) k noBlending) (sym channels-read))
 
@@ -259,7 +259,7 @@ module _ (f : Facts) (o : Opening) (p : Placement) (s : List ℕ) (c : Cursor) w
   pub back-columns : BackSent → (h : Header) → h .back ≡ ended .back → h .blending ≡ ended .blending → h .name ≡ ended .name → Columns (back f o p) s c h
   unfolding back Columns
   back-columns sent h is blends names =
-      columns-inside _ _ _ s c h (rw is (blending-columns s c (shown o) (not (eqb (f .extra) 0)) (coversImage f p) byOwn))
+      columns-inside _ _ _ s c h (rw is (blending-columns s c (sendsBlending o) (not (eqb (f .extra) 0)) (coversImage f p) byOwn))
       (channels-then _ h (λ i l. ap (λ (x : List Blending). getD x i noBlending) blends) _
       (columns-inside _ _ _ s (channels .next) h (rw is (closing-columns s (channels .next) f o (resets (colour .value .mode) (coversImage f p))))
       (array-then (u 8) _ (closed .value .«name_length») 0 _ s (closed .next) h (λ i l. ap (λ (x : List ℕ). getD x i 0) names) _

@@ -33,12 +33,12 @@ use Rattle.header.specs.declared.parts.BackRead.{BackRead}
 use Rattle.header.specs.declared.entry.HeaderAnswer.{HeaderAnswer}
 use Rattle.types.specs.Types.{frameTypeNumber, encodingNumber, blendModeNumber}
 use Rattle.header.specs.Arrays.{array}
-use Rattle.header.specs.Private.{Arrayed, extras, Extras, upsamplingFrom, blendingFrom, Fronted, Backed, Kept, Given, Filled, Defaulted, Named, defaultFront, defaultBack}
+use Rattle.header.specs.Private.{Arrayed, extras, Extras, upsamplingFrom, blendingFrom, Fronted, Backed, ChannelsKept, ChannelsGiven, Filled, Defaulted, Named, defaultFront, defaultBack}
 use Rattle.header.specs.Opening.{opening, upsamplings}
 use Rattle.header.specs.Blending.{modes, coversImage, sourceDecider, blending, words}
-use Rattle.header.specs.Header.{Header, Begun, Ended, sentUpsampling, shown, front, back, header}
+use Rattle.header.specs.Header.{Header, Begun, Ended, sentUpsampling, sendsBlending, front, back, header}
 use Rattle.header.specs.Record.{HeaderNumbers, infoNumbers, numbersOf, colorChannels, blendingOf, headerOf, zeroHeader}
-use Rattle.header.specs.Entry.{badFacts, judged, stands, HeaderTold, told, refusedHeader, answered, kept, Headed}
+use Rattle.header.specs.Entry.{badFacts, judged, stands, HeaderTold, told, refusedHeader, answered, Headed}
 use Rattle.header.proofs.Walks.{read-then, times-length, words-length, in-front}
 use Rattle.header.proofs.Columns.{front-read, back-read}
 use Rattle.header.proofs.AllDefault.{header-off}
@@ -74,7 +74,7 @@ pub header-law : (f : Facts) (s : List ℕ) (a : FrontRead) (b : BackRead) (w w'
         front = a .value;
         upsampling = read (array (u32 upsamplings) (sentUpsampling f (a .value .opening)) (f .extra) 1 (λ (x : List ℕ) (i : ℕ). 0)) s (a .«upsampling_at») .value;
         back = b .value;
-        blending = read (extras (shown (a .value .opening)) (f .extra) (coversImage f (a .value .placement)) (sourceDecider f (b .value .blending .mode))) s (b .«blending_at») .value;
+        blending = read (extras (sendsBlending (a .value .opening)) (f .extra) (coversImage f (a .value .placement)) (sourceDecider f (b .value .blending .mode))) s (b .«blending_at») .value;
         name = read (array (u 8) (b .value .closing .«name_length») (b .value .closing .«name_length») 0 (λ (x : List ℕ) (i : ℕ). 0)) s (b .«name_at») .value;
       };
       next = b .next;
@@ -86,7 +86,7 @@ header-law f s a b w w' x x' fa fb =
     sym (λ i. record { value = record { front = fa .value i; upsampling = fa .upsampling i }; next = fa .next i }) in
     let second : _≡_ {A = Ended} (read (back f (a .value .opening) (a .value .placement)) s (a .next) .value) (record {
       back = b .value;
-      blending = read (extras (shown (a .value .opening)) (f .extra) (coversImage f (a .value .placement)) (sourceDecider f (b .value .blending .mode))) s (b .«blending_at») .value;
+      blending = read (extras (sendsBlending (a .value .opening)) (f .extra) (coversImage f (a .value .placement)) (sourceDecider f (b .value .blending .mode))) s (b .«blending_at») .value;
       name = read (array (u 8) (b .value .closing .«name_length») (b .value .closing .«name_length») 0 (λ (x : List ℕ) (i : ℕ). 0)) s (b .«name_at») .value;
     }) = λ i. record { back = fb .value i; blending = fb .blending i; name = fb .name i } in
     read-then (front f) _ s (start 0) (record { value = record { front = a .value; upsampling = ups }; next = a .next }) first
@@ -162,33 +162,33 @@ module _ (f : Facts) (s name upsampling blending : List ℕ) (before : Refusal) 
 
 -- what a table of eight words for the upsampling and one of 32 for the blending keep of up to eight extra channels
 pub kept-by : (f : Facts) (s : List ℕ) (a : FrontRead) (b : BackRead) (w w' x x' : List ℕ) → length w ≡ 8 → length x ≡ 32 → Fronted f s a w w'
-    → Backed f (a .value .opening) (a .value .placement) s (a .next) b x x' → Kept f s a b w' x'
+    → Backed f (a .value .opening) (a .value .placement) s (a .next) b x x' → ChannelsKept f s a b w' x'
 kept-by f s a b w w' x x' hw hx fa fb =
     let ups = upsamplingFrom f (a .value .opening) s (a .«upsampling_at») in
     let channels = words (blendingFrom f (a .value .opening) (a .value .placement) (b .value .blending .mode) s (b .«blending_at»)) in
     let many : length ups ≡ f .extra = times-length (f .extra) 0 _ s (a .«upsampling_at») in
     let more : length channels ≡ 4 * f .extra = words-length _ ∙ ap (λ (n : ℕ). 4 * n) (times-length (f .extra) 0 _ s (b .«blending_at»)) in
     record {
-      room = (ap length (fa .kept) ∙ length-sets w 0 ups ∙ hw, ap length (fb .kept) ∙ length-sets x 0 channels ∙ hx);
-      upsampled = λ low. ap (take (f .extra)) (fa .kept) ∙ in-front ups w (f .extra) many (omega (arith, low, hw));
-      blended = λ low. ap (take (4 * f .extra)) (fb .kept) ∙ in-front channels x (4 * f .extra) more (omega (arith, low, hx));
+      room = (ap length (fa .table) ∙ length-sets w 0 ups ∙ hw, ap length (fb .table) ∙ length-sets x 0 channels ∙ hx);
+      upsampled = λ low. ap (take (f .extra)) (fa .table) ∙ in-front ups w (f .extra) many (omega (arith, low, hw));
+      blended = λ low. ap (take (4 * f .extra)) (fb .table) ∙ in-front channels x (4 * f .extra) more (omega (arith, low, hx));
     }
 
--- the extra channels, kept or read again
+-- the extra channels, bufferAfter or read again
 module _ (f : Facts) (s : List ℕ) (a : FrontRead) (b : BackRead) (upsampling upsampling' blending blending' : List ℕ) where
-  pub given-kept : (ups channels : List ℕ) → Kept f s a b ups channels → f .extra ≤ 8 → upsampling' ≡ sets upsampling 0 (take (f .extra) ups)
-      → blending' ≡ sets blending 0 (take (4 * f .extra) channels) → Given f s a b upsampling upsampling' blending blending'
+  pub given-kept : (ups channels : List ℕ) → ChannelsKept f s a b ups channels → f .extra ≤ 8 → upsampling' ≡ sets upsampling 0 (take (f .extra) ups)
+      → blending' ≡ sets blending 0 (take (4 * f .extra) channels) → ChannelsGiven f s a b upsampling upsampling' blending blending'
   given-kept ups channels k low eu eb = record { upsampled = eu ∙ ap (sets upsampling 0) (k .upsampled low); blended = eb ∙ ap (sets blending 0) (k .blended low) }
 
   pub given-read : (w e : Cursor)
       → Arrayed (u32 upsamplings) (sentUpsampling f (a .value .opening)) (f .extra) 1 s (a .«upsampling_at») w upsampling upsampling'
-      → Extras (shown (a .value .opening)) (f .extra) (coversImage f (a .value .placement)) (sourceDecider f (b .value .blending .mode)) s (b .«blending_at») e blending blending'
-      → Given f s a b upsampling upsampling' blending blending'
+      → Extras (sendsBlending (a .value .opening)) (f .extra) (coversImage f (a .value .placement)) (sourceDecider f (b .value .blending .mode)) s (b .«blending_at») e blending blending'
+      → ChannelsGiven f s a b upsampling upsampling' blending blending'
   given-read w e wu we = record { upsampled = wu .words; blended = we .content }
 
   -- the record and the arrays of what was read
   pub filled-by : (hd : FrameHeader) (acc : Refusal) (name name' : List ℕ) (n : Cursor) → numbersOf hd ≡ headerOf f (a .value) (b .value) → acc ≡ none
-      → Given f s a b upsampling upsampling' blending blending'
+      → ChannelsGiven f s a b upsampling upsampling' blending blending'
       → Arrayed (u 8) (b .value .closing .«name_length») (b .value .closing .«name_length») 0 s (b .«name_at») n name name'
       → Filled f s a b (record { header = hd; end = b .next .at; refusal = acc }) name name' upsampling upsampling' blending blending'
   filled-by hd acc name name' n eh ea g wn = record { answer = rw (eh, ea); named = wn .words; channels = g }

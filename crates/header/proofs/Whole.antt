@@ -30,7 +30,7 @@ use Rattle.header.specs.Opening.{opening, upsamplings}
 use Rattle.header.specs.Shape.{passes, scales, placement}
 use Rattle.header.specs.Blending.{coversImage, resets, byOwn, sourceDecider, blending}
 use Rattle.header.specs.Closing.{closing}
-use Rattle.header.specs.Header.{Header, Begun, Ended, sentUpsampling, shown, front, back}
+use Rattle.header.specs.Header.{Header, Begun, Ended, sentUpsampling, sendsBlending, front, back}
 use Rattle.header.proofs.Walks.{array-any, read-then}
 
 -- a bundle inside another, then another
@@ -72,11 +72,11 @@ front-law s f b a y w w' q p c pb pa pu pq pp pc =
     ∙ then-within (λ h. h .front .passes) (passes (eqb (a .value .«all_default») 0 && not (eqb (a .value .«frame_type») 2))) _ s (q .next) (record { value = p .value; next = p .next })
     (ap (λ (r : PassesRead). record { value = r .value; next = r .next }) pp)
     ∙ then-within (λ h. h .front .placement) (placement f (a .value)) _ s (p .next) (record { value = c .value; next = c .next }) (ap (λ (r : PlacementRead). record { value = r .value; next = r .next }) pc) in
-    record { upsampling-at = ap (λ (r : OpeningRead). r .next) (rw pb at pa); value = ap (λ (o : Out Begun). o .value .front) is; upsampling = ap (λ (o : Out Begun). o .value .upsampling) is; next = ap (λ (o : Out Begun). o .next) is; kept = pu .words }
+    record { upsampling-at = ap (λ (r : OpeningRead). r .next) (rw pb at pa); value = ap (λ (o : Out Begun). o .value .front) is; upsampling = ap (λ (o : Out Begun). o .value .upsampling) is; next = ap (λ (o : Out Begun). o .next) is; table = pu .words }
 
 pub back-law : (s : List ℕ) (c : Cursor) (f : Facts) (o : Opening) (p : Placement) (b : BlendingRead) (x : Cursor) (w w' : List ℕ) (e : ClosingRead) (n : Cursor) (r : FilterRead) (z : Cursor)
-    → b ≡ blendingRead (read (blending (shown o) (not (eqb (f .extra) 0)) (coversImage f p) byOwn) s c)
-    → Extras (shown o) (f .extra) (coversImage f p) (sourceDecider f (b .value .mode)) s (b .next) x w w'
+    → b ≡ blendingRead (read (blending (sendsBlending o) (not (eqb (f .extra) 0)) (coversImage f p) byOwn) s c)
+    → Extras (sendsBlending o) (f .extra) (coversImage f p) (sourceDecider f (b .value .mode)) s (b .next) x w w'
     → e ≡ closingRead (read (closing f o (resets (b .value .mode) (coversImage f p))) s x)
     → n ≡ read (array (u 8) (e .value .«name_length») (e .value .«name_length») 0 (λ (x : List ℕ) (i : ℕ). 0)) s (e .next) .next
     → r ≡ filterRead (read (restoration (eqb (o .«all_default») 0) (eqb (o .encoding) 1)) s n)
@@ -93,14 +93,14 @@ back-law s c f o p b x w w' e n r z pb px pe pn pr pz =
     let on = eqb (o .«all_default») 0 in
     let m = b .value .mode in
     let k = e .value .«name_length» in
-    let channels = read (extras (shown o) (f .extra) full (sourceDecider f m)) s (b .next) .value in
+    let channels = read (extras (sendsBlending o) (f .extra) full (sourceDecider f m)) s (b .next) .value in
     let name = read (array (u 8) k k 0 (λ (x : List ℕ) (i : ℕ). 0)) s (e .next) .value in
     let ex = read (extensions on) s (r .next) in
     let is : read (back f o p) s c ≡ record { value = record { back = record { blending = b .value; closing = e .value; filter = r .value }; blending = channels; name = name }; next = z } =
-    then-within (λ h. h .back .blending) (blending (shown o) (not (eqb (f .extra) 0)) full byOwn) _ s c (record { value = b .value; next = b .next })
+    then-within (λ h. h .back .blending) (blending (sendsBlending o) (not (eqb (f .extra) 0)) full byOwn) _ s c (record { value = b .value; next = b .next })
     (ap (λ (y : BlendingRead). record { value = y .value; next = y .next }) pb)
-    ∙ read-then (times (f .extra) 0 λ i. within (λ (h : Header). getD (h .blending) i _) (blending (shown o) true full (sourceDecider f m))) _ s (b .next) (record { value = channels; next = x })
-    (rw (px .next) (sym (channels-any (λ i (h : Header). getD (h .blending) i _) (blending (shown o) true full (sourceDecider f m)) (f .extra) 0 s (b .next))))
+    ∙ read-then (times (f .extra) 0 λ i. within (λ (h : Header). getD (h .blending) i _) (blending (sendsBlending o) true full (sourceDecider f m))) _ s (b .next) (record { value = channels; next = x })
+    (rw (px .next) (sym (channels-any (λ i (h : Header). getD (h .blending) i _) (blending (sendsBlending o) true full (sourceDecider f m)) (f .extra) 0 s (b .next))))
     ∙ then-within (λ h. h .back .closing) (closing f o (resets m full)) _ s x (record { value = e .value; next = e .next }) (ap (λ (y : ClosingRead). record { value = y .value; next = y .next }) pe)
     ∙ read-then (array (u 8) k k 0 (λ h i. getD (h .name) i 0)) _ s (e .next) (record { value = name; next = n })
     (rw pn (array-any (u 8) k 0 (λ (x : List ℕ) (i : ℕ). 0) (λ (h : Header) (i : ℕ). getD (h .name) i 0) k 0 s (e .next)))
@@ -113,5 +113,5 @@ back-law s c f o p b x w w' e n r z pb px pe pn pr pz =
       blending = ap (λ (y : Out Ended). y .value .blending) is;
       name = ap (λ (y : Out Ended). y .value .name) is;
       next = ap (λ (y : Out Ended). y .next) is;
-      kept = px .content;
+      table = px .content;
     }

@@ -56,12 +56,12 @@ answered f before h =
     (refusedHeader (refusalOf before h))
 
 -- a lent buffer: its first places hold what was read, the others stay; on a refusal all stay
-abbrev pub kept : Refusal → Out Header → List ℕ → List ℕ → List ℕ
-kept before h new buffer = pick (eqb (refusalOf before h .number) 0) (sets buffer 0 new) buffer
+abbrev pub bufferAfter : Refusal → Out Header → List ℕ → List ℕ → List ℕ
+bufferAfter before h new buffer = pick (eqb (refusalOf before h .number) 0) (sets buffer 0 new) buffer
 
 -- what the entry promises: its answer, and every lent buffer
 pub record Headed (f : Facts) (s : List ℕ) (r : HeaderAnswer) (name name' upsampling upsampling' blending blending' : List ℕ) : Type 0 where
   pub answer : told r ≡ answered f (judged (length s) f (length name) (length upsampling) (length blending)) (stands f s)
-  pub named : name' ≡ kept (judged (length s) f (length name) (length upsampling) (length blending)) (stands f s) (stands f s .value .name) name
-  pub upsampled : upsampling' ≡ kept (judged (length s) f (length name) (length upsampling) (length blending)) (stands f s) (stands f s .value .upsampling) upsampling
-  pub blended : blending' ≡ kept (judged (length s) f (length name) (length upsampling) (length blending)) (stands f s) (words (stands f s .value .blending)) blending
+  pub named : name' ≡ bufferAfter (judged (length s) f (length name) (length upsampling) (length blending)) (stands f s) (stands f s .value .name) name
+  pub upsampled : upsampling' ≡ bufferAfter (judged (length s) f (length name) (length upsampling) (length blending)) (stands f s) (stands f s .value .upsampling) upsampling
+  pub blended : blending' ≡ bufferAfter (judged (length s) f (length name) (length upsampling) (length blending)) (stands f s) (words (stands f s .value .blending)) blending

@@ -37,8 +37,8 @@ abbrev pub sentUpsampling : Facts → Opening → ℕ
 sentUpsampling f o = pick (eqb (o .«all_default») 0 && not (useLfFrame (o .flags))) (f .extra) 0
 
 -- a normal frame that isn't all default
-abbrev pub shown : Opening → Bool
-shown o = eqb (o .«all_default») 0 && normalFrame o
+abbrev pub sendsBlending : Opening → Bool
+sendsBlending o = eqb (o .«all_default») 0 && normalFrame o
 
 abbrev pub noBlending : Blending
 noBlending = record { mode = 0; «alpha_channel» = 0; clamp = 0; source = 0 }
@@ -69,8 +69,8 @@ unfoldable pub back : Facts → Opening → Placement → Table Header Ended
 back f o p =
     let full : Bool = coversImage f p in
     let on : Bool = eqb (o .«all_default») 0 in
-    bind (within (λ h. h .back .blending) (blending (shown o) (not (eqb (f .extra) 0)) full byOwn)) λ colour.
-    bind (times (f .extra) 0 λ i. within (λ h. getD (h .blending) i noBlending) (blending (shown o) true full (sourceDecider f (colour .mode)))) λ channels.
+    bind (within (λ h. h .back .blending) (blending (sendsBlending o) (not (eqb (f .extra) 0)) full byOwn)) λ colour.
+    bind (times (f .extra) 0 λ i. within (λ h. getD (h .blending) i noBlending) (blending (sendsBlending o) true full (sourceDecider f (colour .mode)))) λ channels.
     bind (within (λ h. h .back .closing) (closing f o (resets (colour .mode) full))) λ e.
     bind (array (u 8) (e .«name_length») (e .«name_length») 0 (λ h i. getD (h .name) i 0)) λ name.
     bind (within (λ h. h .back .filter) (restoration on (isEncoding (o .encoding) Modular))) λ filter.

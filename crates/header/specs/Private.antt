@@ -28,7 +28,7 @@ use Rattle.header.specs.Arrays.{array}
 use Rattle.header.specs.Opening.{opening, upsamplings}
 use Rattle.header.specs.Blending.{coversImage, resets, byOwn, sourceDecider, blending, words}
 use Rattle.header.specs.Closing.{closing}
-use Rattle.header.specs.Header.{sentUpsampling, shown, noBlending, front, back}
+use Rattle.header.specs.Header.{sentUpsampling, sendsBlending, noBlending, front, back}
 use Rattle.header.specs.Record.{headerOf}
 use Rattle.header.specs.Entry.{told}
 use Rattle.header.specs.declared.blending.BlendingRead.{BlendingRead}
@@ -115,7 +115,7 @@ abbrev pub upsamplingFrom : Facts → Opening → List ℕ → Cursor → List �
 upsamplingFrom f o s c = read (array (u32 upsamplings) (sentUpsampling f o) (f .extra) 1 (λ (x : List ℕ) (i : ℕ). 0)) s c .value
 
 abbrev pub blendingFrom : Facts → Opening → Placement → ℕ → List ℕ → Cursor → List Blending
-blendingFrom f o p mode s c = read (extras (shown o) (f .extra) (coversImage f p) (sourceDecider f mode)) s c .value
+blendingFrom f o p mode s c = read (extras (sendsBlending o) (f .extra) (coversImage f p) (sourceDecider f mode)) s c .value
 
 -- the parts as they are read, where their arrays begin, and what a lent table holds of the extra channels
 pub record Fronted (f : Facts) (s : List ℕ) (r : FrontRead) (before after : List ℕ) : Type 0 where
@@ -124,19 +124,19 @@ pub record Fronted (f : Facts) (s : List ℕ) (r : FrontRead) (before after : Li
   pub upsampling : read (front f) s (start 0) .value .upsampling
       ≡ upsamplingFrom f (r .value .opening) s (r .«upsampling_at»)
   pub next : read (front f) s (start 0) .next ≡ r .next
-  pub kept : after ≡ sets before 0 (upsamplingFrom f (r .value .opening) s (r .«upsampling_at»))
+  pub table : after ≡ sets before 0 (upsamplingFrom f (r .value .opening) s (r .«upsampling_at»))
 
 pub record Backed (f : Facts) (o : Opening) (p : Placement) (s : List ℕ) (c : Cursor) (r : BackRead) (before after : List ℕ) : Type 0 where
-  pub blending-at : r .«blending_at» ≡ read (blending (shown o) (not (eqb (f .extra) 0)) (coversImage f p) byOwn) s c .next
+  pub blending-at : r .«blending_at» ≡ read (blending (sendsBlending o) (not (eqb (f .extra) 0)) (coversImage f p) byOwn) s c .next
   pub name-at : r .«name_at»
       ≡ read (closing f o (resets (r .value .blending .mode) (coversImage f p))) s
-      (read (extras (shown o) (f .extra) (coversImage f p) (sourceDecider f (r .value .blending .mode))) s (r .«blending_at») .next) .next
+      (read (extras (sendsBlending o) (f .extra) (coversImage f p) (sourceDecider f (r .value .blending .mode))) s (r .«blending_at») .next) .next
   pub value : read (back f o p) s c .value .back ≡ r .value
   pub blending : read (back f o p) s c .value .blending ≡ blendingFrom f o p (r .value .blending .mode) s (r .«blending_at»)
   pub name : read (back f o p) s c .value .name
       ≡ read (array (u 8) (r .value .closing .«name_length») (r .value .closing .«name_length») 0 (λ (x : List ℕ) (i : ℕ). 0)) s (r .«name_at») .value
   pub next : read (back f o p) s c .next ≡ r .next
-  pub kept : after ≡ sets before 0 (words (blendingFrom f o p (r .value .blending .mode) s (r .«blending_at»)))
+  pub table : after ≡ sets before 0 (words (blendingFrom f o p (r .value .blending .mode) s (r .«blending_at»)))
 
 -- the numbers of a header that its record's enums name: u(2), u(1), and a mode from 0 to 4
 pub record Named (a : Front) (b : Back) : Type 0 where
@@ -145,13 +145,13 @@ pub record Named (a : Front) (b : Back) : Type 0 where
   pub mode : b .blending .mode < 5
 
 -- what was kept of up to eight extra channels: all their words, in front
-pub record Kept (f : Facts) (s : List ℕ) (a : FrontRead) (b : BackRead) (ups channels : List ℕ) : Type 0 where
+pub record ChannelsKept (f : Facts) (s : List ℕ) (a : FrontRead) (b : BackRead) (ups channels : List ℕ) : Type 0 where
   pub room : (length ups ≡ 8) × (length channels ≡ 32)
   pub upsampled : f .extra ≤ 8 → take (f .extra) ups ≡ upsamplingFrom f (a .value .opening) s (a .«upsampling_at»)
   pub blended : f .extra ≤ 8 → take (4 * f .extra) channels ≡ words (blendingFrom f (a .value .opening) (a .value .placement) (b .value .blending .mode) s (b .«blending_at»))
 
 -- the extra channels' words in front of the lent buffers
-pub record Given (f : Facts) (s : List ℕ) (a : FrontRead) (b : BackRead) (upsampling upsampling' blending blending' : List ℕ) : Type 0 where
+pub record ChannelsGiven (f : Facts) (s : List ℕ) (a : FrontRead) (b : BackRead) (upsampling upsampling' blending blending' : List ℕ) : Type 0 where
   pub upsampled : upsampling' ≡ sets upsampling 0 (upsamplingFrom f (a .value .opening) s (a .«upsampling_at»))
   pub blended : blending' ≡ sets blending 0 (words (blendingFrom f (a .value .opening) (a .value .placement) (b .value .blending .mode) s (b .«blending_at»)))
 
@@ -159,7 +159,7 @@ pub record Given (f : Facts) (s : List ℕ) (a : FrontRead) (b : BackRead) (upsa
 pub record Filled (f : Facts) (s : List ℕ) (a : FrontRead) (b : BackRead) (r : HeaderAnswer) (name name' upsampling upsampling' blending blending' : List ℕ) : Type 0 where
   pub answer : told r ≡ record { header = headerOf f (a .value) (b .value); end = b .next .at; refusal = none }
   pub named : name' ≡ sets name 0 (read (array (u 8) (b .value .closing .«name_length») (b .value .closing .«name_length») 0 (λ (x : List ℕ) (i : ℕ). 0)) s (b .«name_at») .value)
-  pub channels : Given f s a b upsampling upsampling' blending blending'
+  pub channels : ChannelsGiven f s a b upsampling upsampling' blending blending'
 
 -- what is answered: the record, the place behind that bit, and for each extra channel upsampling 1 and blending 0, 0, 0, 0
 pub record Defaulted (f : Facts) (at : ℕ) (r : HeaderAnswer) (upsampling upsampling' blending blending' : List ℕ) : Type 0 where

@@ -18,9 +18,9 @@ use crate::parts::Back;
 use crate::parts::BackRead;
 use crate::parts::Front;
 use crate::parts::FrontRead;
-use crate::parts::is_shown;
 use crate::parts::read_back;
 use crate::parts::read_front;
+use crate::parts::sends_blending;
 use crate::parts::sent_upsampling;
 use crate::shape::Passes;
 use crate::shape::either_number;
@@ -42,7 +42,7 @@ ghost use mathlib.Core.Path.{_≡_};
 ghost use Prim.Native.Nat.{_<_};
 ghost use Rattle.header.specs.Record.{colorChannels, infoNumbers, blendingOf, numbersOf, headerOf, noPasses, zeroHeader};
 ghost use Rattle.header.specs.Entry.{badFacts, judged, told, refusedHeader, Headed};
-ghost use Rattle.header.specs.Private.{Named, Kept, Given, Filled};
+ghost use Rattle.header.specs.Private.{Named, ChannelsKept, ChannelsGiven, Filled};
 
 // The record with the bit place after the header, or a refusal beside the zero record.
 pub struct HeaderAnswer {
@@ -232,8 +232,8 @@ fn give_channels(
     upsampling: &mut [u32],
     blending: &mut [u32],
 )
-    requires { ⌜ Kept f (now s) a b (now ups) (now channels) ⌝ }
-    ensures { λ _. ⌜ Given f (now (s .entry)) a b (now (upsampling .entry)) (now (upsampling .exit)) (now (blending .entry)) (now (blending .exit)) ⌝ }
+    requires { ⌜ ChannelsKept f (now s) a b (now ups) (now channels) ⌝ }
+    ensures { λ _. ⌜ ChannelsGiven f (now (s .entry)) a b (now (upsampling .entry)) (now (upsampling .exit)) (now (blending .entry)) (now (blending .exit)) ⌝ }
 {
     if f.extra <= 8 {
         let n = f.extra as usize;
@@ -258,7 +258,7 @@ fn give_channels(
     read_extra_blending(
         s,
         b.blending_at,
-        is_shown(o),
+        sends_blending(o),
         f.extra,
         covers_image(f, front.placement),
         source_decider(f, colour.mode),
@@ -278,7 +278,7 @@ fn give_read(
     upsampling: &mut [u32],
     blending: &mut [u32],
 ) -> HeaderAnswer
-    requires { ⌜ Kept f (now s) a b (now ups) (now channels) × Named (a .value) (b .value) ⌝ }
+    requires { ⌜ ChannelsKept f (now s) a b (now ups) (now channels) × Named (a .value) (b .value) ⌝ }
     ensures { λ r. ⌜ Filled f (now (s .entry)) a b r (now (name .entry)) (now (name .exit)) (now (upsampling .entry)) (now (upsampling .exit)) (now (blending .entry)) (now (blending .exit)) ⌝ }
 {
     let front = a.value;

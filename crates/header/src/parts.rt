@@ -30,7 +30,7 @@ use filter::read_restoration_filter_if;
 use numbers::read_extensions_if;
 use types::FrameFlags;
 ghost use mathlib.Core.Path.{_≡_};
-ghost use Rattle.header.specs.Header.{sentUpsampling, shown};
+ghost use Rattle.header.specs.Header.{sentUpsampling, sendsBlending};
 ghost use Rattle.header.specs.Private.{Fronted, Backed};
 
 // all_default to the frame's size.
@@ -70,8 +70,8 @@ pub fn sent_upsampling(f: Facts, o: Opening) -> u32
 }
 
 // A normal frame, whose blending is sent.
-pub fn is_shown(o: Opening) -> bool
-    ensures { λ r. ⌜ r ≡ shown o ⌝ }
+pub fn sends_blending(o: Opening) -> bool
+    ensures { λ r. ⌜ r ≡ sendsBlending o ⌝ }
 {
     both(
         o.all_default == 0,
@@ -130,11 +130,11 @@ pub fn read_back(
     ensures { λ r. ⌜ Backed f o placement (now (s .entry)) c r (now (channels .entry)) (now (channels .exit)) ⌝ }
 {
     let full = covers_image(f, placement);
-    let shown = is_shown(o);
+    let sent = sends_blending(o);
     let b = read_blending_if(
         s,
         c,
-        shown,
+        sent,
         f.extra != 0,
         full,
         Decider { own: true, mode: 0 },
@@ -145,7 +145,7 @@ pub fn read_back(
     let x = read_extra_blending(
         s,
         blending_at,
-        shown,
+        sent,
         f.extra,
         full,
         source_decider(f, mode),

@@ -20,7 +20,7 @@ returns-2 : tie.Need-returns-2
 returns-2 c =
     given-read (c .before .before .before .before .before .before .before .before .before .before .before .before .before .before .before .before .before .before .before .before .before .before .before .before .args .f) (c .before .before .before .before .before .before .before .before .before .before .before .before .before .before .before .before .before .before .before .before .before .before .before .before .args .s .now) (c .before .before .before .before .before .before .before .before .before .before .before .before .before .before .before .before .before .before .before .before .before .before .before .before .args .a) (c .before .before .before .before .before .before .before .before .before .before .before .before .before .before .before .before .before .before .before .before .before .before .before .before .args .b) (c .before .before .before .before .before .before .before .before .before .before .before .before .before .before .before .before .before .before .before .before .before .before .before .before .args .upsampling .now) _ (c .before .before .before .before .before .before .before .before .before .before .before .before .before .before .before .before .before .before .before .before .before .before .before .before .args .blending .now) _ _ _
     (rw (c .before .before .before .before .before .before .before .before .before .before .before .before .sent-upsampling .ensures, c .before .before .before .before .before .before .before .before .before .before .before .upsampling-choices .ensures) at (c .before .before .before .before .before .before .before .before .before .read-u32-array .ensures))
-    (rw (c .before .before .before .before .before .before .is-shown .ensures, c .before .before .before .before .before .covers-image .ensures, c .before .before .before .before .source-decider .ensures) at (c .before .before .read-extra-blending .ensures))
+    (rw (c .before .before .before .before .before .before .sends-blending .ensures, c .before .before .before .before .before .covers-image .ensures, c .before .before .before .before .source-decider .ensures) at (c .before .before .read-extra-blending .ensures))
 
 pub give-channels-spec : {M : Type 1} → statement M
 give-channels-spec =

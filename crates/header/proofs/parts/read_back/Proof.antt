@@ -12,8 +12,8 @@ returns : tie.Need-returns
 returns c =
     rw (c .before .before .before .before .before .before .before .before .before .before .before .before .before .before .before .kept .ensures)
     (back-law (c .before .before .before .before .before .before .before .before .before .before .before .before .before .before .before .before .before .before .before .before .before .before .before .args .s .now) (c .before .before .before .before .before .before .before .before .before .before .before .before .before .before .before .before .before .before .before .before .before .before .before .args .c) (c .before .before .before .before .before .before .before .before .before .before .before .before .before .before .before .before .before .before .before .before .before .before .before .args .f) (c .before .before .before .before .before .before .before .before .before .before .before .before .before .before .before .before .before .before .before .before .before .before .before .args .o) (c .before .before .before .before .before .before .before .before .before .before .before .before .before .before .before .before .before .before .before .before .before .before .before .args .placement) (c .before .before .before .before .before .before .before .before .before .before .before .before .before .before .before .before .before .read-blending-if .result) _ (c .before .before .before .before .before .before .before .before .before .before .before .before .before .before .before .before .before .before .before .before .before .before .before .args .channels .now) _ _ _ _ _
-    (c .before .before .before .before .before .before .before .before .before .before .before .before .before .before .before .before .before .read-blending-if .ensures ∙ rw (c .before .before .before .before .before .before .before .before .before .before .before .before .before .before .before .before .before .before .before .is-shown .ensures, c .before .before .before .before .before .before .before .before .before .before .before .before .before .before .before .before .before .before .before .before .covers-image .ensures))
-    (rw (c .before .before .before .before .before .before .before .before .before .before .before .before .before .before .before .before .before .before .before .is-shown .ensures, c .before .before .before .before .before .before .before .before .before .before .before .before .before .before .before .before .before .before .before .before .covers-image .ensures, c .before .before .before .before .before .before .before .before .before .before .before .before .before .before .before .kept .ensures, c .before .before .before .before .before .before .before .before .before .before .before .before .before .before .source-decider .ensures) at (c .before .before .before .before .before .before .before .before .before .before .before .before .read-extra-blending .ensures))
+    (c .before .before .before .before .before .before .before .before .before .before .before .before .before .before .before .before .before .read-blending-if .ensures ∙ rw (c .before .before .before .before .before .before .before .before .before .before .before .before .before .before .before .before .before .before .before .sends-blending .ensures, c .before .before .before .before .before .before .before .before .before .before .before .before .before .before .before .before .before .before .before .before .covers-image .ensures))
+    (rw (c .before .before .before .before .before .before .before .before .before .before .before .before .before .before .before .before .before .before .before .sends-blending .ensures, c .before .before .before .before .before .before .before .before .before .before .before .before .before .before .before .before .before .before .before .before .covers-image .ensures, c .before .before .before .before .before .before .before .before .before .before .before .before .before .before .before .kept .ensures, c .before .before .before .before .before .before .before .before .before .before .before .before .before .before .source-decider .ensures) at (c .before .before .before .before .before .before .before .before .before .before .before .before .read-extra-blending .ensures))
     (c .before .before .before .before .before .before .before .before .read-closing .ensures ∙ rw (c .before .before .before .before .before .before .before .before .before .both .ensures, c .before .before .before .before .before .before .before .before .before .before .before .before .before .before .before .before .before .before .before .before .covers-image .ensures))
     (c .before .before .before .before .before .pass-bytes .ensures)
     (c .before .before .read-restoration-filter-if .ensures)
