@@ -12,3 +12,4 @@ pub mod TocRefusals
 pub mod Status
 pub mod Numerals
 pub mod Once
+pub mod Cuts
