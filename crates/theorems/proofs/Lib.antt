@@ -13,3 +13,5 @@ pub mod Status
 pub mod Numerals
 pub mod Once
 pub mod Cuts
+pub mod Lengths
+pub mod Arrays
