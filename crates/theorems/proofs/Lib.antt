@@ -12,3 +12,6 @@ pub mod TocRefusals
 pub mod Status
 pub mod Numerals
 pub mod Once
+pub mod Cuts
+pub mod Lengths
+pub mod Arrays
