@@ -113,6 +113,23 @@ pub struct Toc {
     pub total_byte_size: u64,
 }
 
+impl Toc {
+    /// Whether the frame has only one section.
+    #[inline]
+    pub fn is_single_entry(&self) -> bool {
+        self.count <= 1
+    }
+}
+
+/// A section, its kind and where its data lies.
+#[derive(Clone, Copy, Debug, PartialEq, Eq)]
+pub struct TocGroup {
+    pub section: u32,
+    pub kind: Kind,
+    pub offset: u64,
+    pub size: u32,
+}
+
 /// What reading a table comes to; "order needed" has the bit place after the flag.
 #[derive(Clone, Copy, Debug, PartialEq, Eq)]
 pub enum TocRead {
@@ -724,6 +741,28 @@ pub fn section_of_sent(f: &Frame, inverse: &[u32], sent: u32) -> Result<u32, Ref
         inverse.len(),
         sent
     )?[0] as u32)
+}
+
+/// The sections in the order in which they are sent: the one sent as number 0, then 1, and so on. Refused: 8, 9,
+/// 10, 3, then 13 for `inverse`, which is judged whole, once.
+pub fn iter_bitstream_order<'a>(
+    f: &'a Frame,
+    inverse: &'a [u32],
+    offsets: &'a [u64],
+    sizes: &'a [u32],
+) -> Result<impl Iterator<Item = Result<TocGroup, Refusal>> + 'a, Refusal> {
+    section_at(f, offsets, sizes, 0)?;
+    section_of_sent(f, inverse, 0)?;
+    Ok(inverse.iter().map(move |&section| {
+        let kind = kind_of(f, section)?;
+        let (offset, size) = section_at(f, offsets, sizes, section)?;
+        Ok(TocGroup {
+            section,
+            kind,
+            offset,
+            size,
+        })
+    }))
 }
 
 /// What the program `list` writes for an input (a facts line and a frame): how many bytes of `text` it is, or 3 where it doesn't fit.

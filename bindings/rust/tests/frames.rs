@@ -189,6 +189,25 @@ fn a_permuted_order() {
         assert_eq!(section_of_sent(&f, &t.inverse[..5], sent), Ok(section));
     }
     assert_eq!(refused(sent_of_section(&f, &t.order, 0)), (13, 0));
+    let sent: Vec<TocGroup> = iter_bitstream_order(&f, &t.inverse[..5], &t.offsets, &t.sizes)
+        .unwrap()
+        .map(|group| group.unwrap())
+        .collect();
+    assert_eq!(
+        sent.iter().map(|g| g.section).collect::<Vec<_>>(),
+        [1, 2, 0, 3, 4]
+    );
+    assert_eq!(sent[0].kind, Kind::LfGroup(0));
+    assert_eq!((sent[0].offset, sent[0].size), (9, 10));
+    assert_eq!((sent[2].offset, sent[2].size), (19, 3));
+    let mut at = 9;
+    for group in &sent {
+        assert_eq!(group.offset, at);
+        at += group.size as u64;
+    }
+    assert!(iter_bitstream_order(&f, &t.inverse, &t.offsets, &t.sizes).is_err_and(|r| r.number == 13));
+    assert!(iter_bitstream_order(&f, &t.inverse[..5], &t.offsets[..4], &t.sizes).is_err_and(|r| r.number == 3));
+    assert!(matches!(toc, TocRead::Table(t) if !t.is_single_entry()));
     let mut u = Lent::of(5);
     let bad = read_toc_with_order(&EXAMPLE, &f, 8, &[0, 0, 1, 2, 3], u.lend());
     assert_eq!(

@@ -81,6 +81,10 @@ pub record Reading : Type 0 where
 unfoldable pub tocOf : ℕ → List ℕ → Cursor → Toc
 tocOf count sizes c = record { count = count; bookmark = c .at / 8; «total_byte_size» = sentBefore sizes count }
 
+-- `is_single_entry`: one section, or none
+abbrev pub singleEntry : Toc → Bool
+singleEntry toc = leb (toc .count) 1
+
 -- the sizes were read, or the first fault
 unfoldable pub sizedAnswer : ℕ → List ℕ → Cursor → TocRead
 sizedAnswer count sizes c = pick (clear c) (Table (tocOf count sizes c)) (Refused (c .fault))

@@ -5,6 +5,8 @@ mod reading;
 pub use orders::invert;
 pub use reading::read_toc;
 pub use reading::read_toc_with_order;
+ghost use mathlib.Core.Path.{_≡_};
+ghost use Rattle.toc.specs.Reading.{singleEntry};
 
 // What an accepted table answers: how many sections, the data start (the Rust's `bookmark`) and the sum of the sizes.
 pub struct Toc {
@@ -18,4 +20,13 @@ pub enum TocRead {
     Table(Toc),
     OrderNeeded(u64),
     Refused(bits::Refusal),
+}
+
+impl Toc {
+    // Whether the frame has only one section.
+    pub fn is_single_entry(self) -> bool
+        ensures { λ r. ⌜ r ≡ singleEntry self ⌝ }
+    {
+        self.count <= 1
+    }
 }
