@@ -6,6 +6,10 @@ pub mod Tables
 pub mod Spots
 pub mod Found
 pub mod Demand
+pub mod Refusing
+pub mod GridEnds
+pub mod SectionEnds
+pub mod Readers
 pub mod GridRefusals
 pub mod HeaderRefusals
 pub mod TocRefusals
