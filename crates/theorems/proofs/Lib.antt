@@ -10,6 +10,7 @@ pub mod Refusing
 pub mod GridEnds
 pub mod SectionEnds
 pub mod Readers
+pub mod TocEnds
 pub mod GridRefusals
 pub mod HeaderRefusals
 pub mod TocRefusals
