@@ -11,6 +11,8 @@ pub mod GridEnds
 pub mod SectionEnds
 pub mod Readers
 pub mod TocEnds
+pub mod ReaderEnds
+pub mod HeaderEnds
 pub mod GridRefusals
 pub mod HeaderRefusals
 pub mod TocRefusals

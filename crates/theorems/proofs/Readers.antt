@@ -1,5 +1,5 @@
 -- Readers: the cursor that a field or a table hands on has the fault before, or one of the numbers of its field types and tests, at a place within the input.
--- One induction for all field types and all tables; then a law for each public function that reads.
+-- One induction for all field types and all tables.
 use Prim.Native.Nat.{ℕ, zero, suc, _+_, _-_, _*_, _/_, _%_, _^_, _≤_}
 use native.Mathlib.Omega.{arith}
 use mathlib.Core.Path.{_≡_, refl, sym, _∙_, ap}
@@ -10,7 +10,6 @@ use lib.Dec.{eqb, leb}
 use Rattle.bits.specs.declared.Refusal.{Refusal}
 use Rattle.bits.specs.declared.Cursor.{Cursor}
 use Rattle.bits.specs.declared.Field.{Field}
-use Rattle.bits.specs.declared.Choices.{Choices}
 use Rattle.bits.specs.Refusals.{pick, refusal, none, start, clear}
 use Rattle.bits.specs.Bits.{bitsAt, bitCount, there}
 use Rattle.bits.specs.Half.{exponent}
@@ -21,8 +20,8 @@ use Rattle.bits.specs.Extensions.{lengths, extensions}
 use Rattle.bits.proofs.Reading.{picked, field-within, failed-same, read-within-end, fault-stays}
 use Rattle.bits.proofs.Numbered.{of-both}
 use Rattle.grid.proofs.Accepted.{and-parts}
-use Rattle.theorems.specs.Refusing.{among, rules, Refuses, Hands, ofBits, ofEnum, ofPadding, ofHalf}
-use Rattle.theorems.proofs.Refusing.{holds, refuses-none, refuses-with}
+use Rattle.theorems.specs.Refusing.{among, rules, Refuses, Hands}
+use Rattle.theorems.proofs.Refusing.{holds, among-more, refuses-none, refuses-with}
 
 -- the numbers that a field type is refused with
 abbrev pub ownOf : Codec → List ℕ
@@ -171,3 +170,16 @@ own-lengths l h (suc count) mask sum = (rw h, λ n. own-lengths l h count (mask 
 pub own-extensions : (l : List ℕ) → among l 4 ≡ true → (on : Bool) → Own l (extensions on)
 unfolding extensions Own
 own-extensions l h on = (rw h, λ mask. own-bind l (lengths 64 mask 0) _ (own-lengths l h 64 mask 0) (λ sum. (rw h, λ x. tt)))
+
+-- a list that holds more
+holds-more : (l more k : List ℕ) → holds l more ≡ true → holds more k ≡ true → holds l k ≡ true
+holds-more l more [] h e = refl
+holds-more l more (n ∷ k) h e =
+    let parts = and-parts _ _ e in
+    rw (among-more l more n h (parts .0), holds-more l more k h (parts .1))
+
+pub own-more : {R A : Type 0} (l more : List ℕ) → holds l more ≡ true → (t : Table R A) → Own more t → Own l t
+unfolding Own
+own-more l more h (ends a) n = tt
+own-more l more h (row on k d v rest) n = (holds-more l more (ownOf k) h (n .0), λ x. own-more l more h (rest x) (n .1 x))
+own-more l more h (fails bad number back rest) n = (among-more l more number h (n .0), own-more l more h rest (n .1))

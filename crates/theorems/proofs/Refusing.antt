@@ -29,7 +29,7 @@ ruled (k ∷ more) n e h =
     (λ t. let is : k ≡ n = eqb-true k n t in (rw (← is) (leb-true 1 k (own .0)), rw (← is) (leb-true k 14 (own .1))))
     (λ t. ruled more n (parts .1) (rw t at h))
 
-among-more : (l more : List ℕ) (n : ℕ) → holds l more ≡ true → among more n ≡ true → among l n ≡ true
+pub among-more : (l more : List ℕ) (n : ℕ) → holds l more ≡ true → among more n ≡ true → among l n ≡ true
 among-more l [] n e h = absurd (false≢true h)
 among-more l (k ∷ more) n e h =
     let parts = and-parts _ _ e in

@@ -15,6 +15,7 @@ use Rattle.grid.specs.declared.Number.{Number}
 use Rattle.grid.specs.declared.Size.{Size}
 use Rattle.grid.specs.declared.Placed.{Placed}
 use Rattle.grid.specs.declared.Touches.{Touches}
+use Rattle.header.specs.Record.{HeaderNumbers}
 use Rattle.order.specs.declared.SentAnswer.{SentAnswer}
 use Rattle.order.specs.declared.SectionAnswer.{SectionAnswer}
 use Rattle.sections.specs.declared.SectionPlace.{SectionPlace}
@@ -79,6 +80,17 @@ abbrev pub LayoutEnds : List ℕ → LayoutAnswer → Type 0
 LayoutEnds numbers a =
     Ends numbers 0 (a .refusal) (0 ∷ 0 ∷ 0 ∷ 0 ∷ 0 ∷ 0 ∷ 0 ∷ 0 ∷ [])
     (a .layout .width ∷ a .layout .height ∷ a .layout .power ∷ a .layout .columns ∷ a .layout .groups ∷ a .layout .«lf_groups» ∷ a .layout .sections ∷ a .layout .passes ∷ [])
+
+-- the header entry: its record and the place behind it, and the three lent buffers
+pub record HeaderSaid : Type 0 where
+  pub header : HeaderNumbers
+  pub end : ℕ
+  pub name : List ℕ
+  pub upsampling : List ℕ
+  pub blending : List ℕ
+
+abbrev pub headerSaid : HeaderNumbers → ℕ → List ℕ → List ℕ → List ℕ → HeaderSaid
+headerSaid h end name upsampling blending = record { header = h; end = end; name = name; upsampling = upsampling; blending = blending }
 
 -- The section entries answer a table, or "order needed" where no order is lent, or a refusal, which has a number; only a table changes what was lent.
 abbrev pub Tells : {A : Type 0} → List ℕ → Bool → ℕ → A → A → TocRead → Type 0
