@@ -13,6 +13,8 @@ pub mod Readers
 pub mod TocEnds
 pub mod ReaderEnds
 pub mod HeaderEnds
+pub mod ListingEnds
+pub mod WordEnds
 pub mod GridRefusals
 pub mod HeaderRefusals
 pub mod TocRefusals

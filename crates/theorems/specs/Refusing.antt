@@ -23,6 +23,8 @@ use Rattle.sections.specs.Kinds.{KindTold}
 use Rattle.layout.specs.declared.LayoutAnswer.{LayoutAnswer}
 use Rattle.toc.specs.declared.TocRead.{TocRead}
 use Rattle.toc.specs.declared.TocRead.the-variants.{Table, OrderNeeded, Refused}
+use Rattle.toc.specs.Reading.{Tables}
+use Rattle.listing.specs.declared.TextAnswer.{TextAnswer}
 
 -- whether a number stands in a list
 abbrev pub among : List ℕ → ℕ → Bool
@@ -92,21 +94,45 @@ pub record HeaderSaid : Type 0 where
 abbrev pub headerSaid : HeaderNumbers → ℕ → List ℕ → List ℕ → List ℕ → HeaderSaid
 headerSaid h end name upsampling blending = record { header = h; end = end; name = name; upsampling = upsampling; blending = blending }
 
+-- a text: its length, and the lent bytes
+pub record TextSaid : Type 0 where
+  pub length : ℕ
+  pub bytes : List ℕ
+
+abbrev pub TextEnds : List ℕ → TextAnswer → List ℕ → List ℕ → Type 0
+TextEnds numbers a before after = Ends {A = TextSaid} numbers 0 (a .refusal) (record { length = 0; bytes = before }) (record { length = a .length; bytes = after })
+
 -- The section entries answer a table, or "order needed" where no order is lent, or a refusal, which has a number; only a table changes what was lent.
 abbrev pub Tells : {A : Type 0} → List ℕ → Bool → ℕ → A → A → TocRead → Type 0
 Tells numbers needs last before after (Table toc) = 0 < toc .count
 Tells numbers needs last before after (OrderNeeded place) = (needs ≡ true) × (place ≤ last) × (after ≡ before)
 Tells numbers needs last before after (Refused r) = (r .number ≡ 0 → ⊥) × Refuses numbers last r × (after ≡ before)
 
--- The C functions' status word holds a refusal: the number in its lowest eight bits, the place above them.
+-- The C functions' status word holds a refusal: the number in its lowest eight bits, the place above them. They answer in what is lent alone.
 abbrev pub held : ℕ → Refusal
 held word = refusal (word % 256) (word / 256)
 
--- 255 is "order needed"
-pub record Needs {A : Type 0} (last word : ℕ) (before after : A) : Type 0 where
+abbrev pub WordEnds : {A : Type 0} → List ℕ → ℕ → ℕ → A → A → Type 0
+WordEnds numbers last word before after = Ends numbers last (held word) before after
+
+-- the section entries' four tables and three words, and the listing's bytes and word
+pub record TocLent : Type 0 where
+  pub tables : Tables
+  pub words : List ℕ
+
+pub record ListLent : Type 0 where
+  pub bytes : List ℕ
+  pub words : List ℕ
+
+-- 255 is "order needed", where no order is lent
+pub record Needs (needs : Bool) (last word : ℕ) (before after : TocLent) : Type 0 where
+  pub asked : needs ≡ true
   pub number : word % 256 ≡ 255
   pub inside : word / 256 ≤ last
   pub kept : after ≡ before
+
+abbrev pub TocWordEnds : List ℕ → Bool → ℕ → ℕ → TocLent → TocLent → Type 0
+TocWordEnds numbers needs last word before after = WordEnds numbers last word before after ⊎ Needs needs last word before after
 
 -- A reader hands on a cursor. After a fault nothing is read. Else, from a place within the input, the fault is as it was (none), or one of the reader's
 -- numbers at a place within the input, and so is the place that is handed on.
