@@ -1,24 +1,30 @@
 -- The public functions that read: their cursor has the fault before, or 4 or another of their field types, at a place within the input.
-use Prim.Native.Nat.{ℕ, _≤_}
-use native.Mathlib.Omega.{arith}
+use Prim.Native.Nat.{ℕ, _+_, _-_, _%_, _≤_}
 use native.Mathlib.Nat.{le-refl}
 use mathlib.Core.Path.{_≡_, refl}
-use mathlib.Core.List.{List}
-use mathlib.Core.Bool.{Bool, true}
+use mathlib.Core.Logic.{_⊎_, inl, inr}
+use mathlib.Core.List.{List, [], _∷_}
+use mathlib.Core.Bool.{Bool, true, _&&_}
+use lib.Dec.{eqb}
 use lib.Ieee.{Float}
 use Rattle.bits.specs.declared.Cursor.{Cursor}
+use Rattle.bits.specs.declared.Field.{Field}
 use Rattle.bits.specs.declared.Choices.{Choices}
 use Rattle.bits.specs.declared.Sum.{Sum}
-use Rattle.bits.specs.Steps.{cut}
-use Rattle.bits.specs.Codec.{u, bool, u32, cases, u64, f16, padding, skip, wideOf, field}
+use Rattle.bits.specs.Refusals.{clear}
+use Rattle.bits.specs.Bits.{bitsAt, bitCount}
+use Rattle.bits.specs.Steps.{Steps, gives, refuses, cut, run}
+use Rattle.bits.specs.Codec.{u, bool, u32, cases, u64, f16, padding, skip, steps, wideOf, field}
 use Rattle.bits.specs.Table.{Table, ends, fails, failed, read}
 use Rattle.bits.specs.Extensions.{whole, extensions}
+use Rattle.bits.proofs.Reading.{padding-there}
+use Rattle.bits.proofs.Numbered.{of-both}
 use Rattle.filter.specs.Values.{float, floats}
 use Rattle.filter.specs.Gabor.{channel, gabor, gaborRead}
 use Rattle.filter.specs.Epf.{sharp, scale, sigma, epf, epfRead}
 use Rattle.filter.specs.Filter.{restoration, filterRead}
 use Rattle.theorems.specs.Refusing.{among, rules, Refuses, Hands, ofBits, ofEnum, ofPadding, ofHalf, ofFilter}
-use Rattle.theorems.proofs.Refusing.{refuses-with}
+use Rattle.theorems.proofs.Refusing.{refuses-none, refuses-with}
 use Rattle.theorems.proofs.Readers.{Own, own-bind, own-inside, own-times, own-extensions, own-more, read-hands, field-hands}
 
 -- ---- bits and numbers
@@ -35,14 +41,29 @@ read-bool-if s c on d = field-hands ofBits refl s on bool d c refl
 pub read-bool : (s : List ℕ) (c : Cursor) → Hands ofBits s c (field s true bool 0 c .next)
 read-bool s c = read-bool-if s c true 0
 
--- 4 only where the cursor is past the end
 pub zero-pad-to-byte : (s : List ℕ) (c : Cursor) → Hands ofPadding s c (field s true padding 0 c .next)
 zero-pad-to-byte s c = field-hands ofPadding refl s true padding 0 c refl
+
+-- 4 only from a cursor behind the end of the input: a padding is always there
+padded : (s : List ℕ) (p : ℕ) → p ≤ bitCount s → Refuses (12 ∷ []) (bitCount s) (run (steps padding p) s p p .next .fault)
+unfolding run
+padded s p i =
+    let n : ℕ = (8 - p % 8) % 8 in
+    rw (padding-there s p i)
+    (of-both (λ (t : Steps). Refuses (12 ∷ []) (bitCount s) (run t s p (p + n) .next .fault)) (eqb (bitsAt s p n) 0) (gives 0) (refuses 12)
+    (refuses-none (12 ∷ []) (bitCount s) refl) (refuses-with (12 ∷ []) (bitCount s) 12 p refl refl i))
+
+pub zero-pad-within : (s : List ℕ) (c : Cursor) → c .at ≤ bitCount s
+    → (field s true padding 0 c .next .fault ≡ c .fault) ⊎ Refuses (12 ∷ []) (bitCount s) (field s true padding 0 c .next .fault)
+unfolding field
+zero-pad-within s c i =
+    of-both (λ (r : Field). (r .next .fault ≡ c .fault) ⊎ Refuses (12 ∷ []) (bitCount s) (r .next .fault)) (true && clear c) (run (steps padding (c .at)) s (c .at) (c .at)) (record { value = 0; next = c })
+    (inr (padded s (c .at) i)) (inl refl)
 
 -- the caller's number
 pub refuse-if : (l : List ℕ) → rules l ≡ true → (s : List ℕ) (c : Cursor) (bad : Bool) (number back : ℕ) → among l number ≡ true → Hands l s c (failed bad number back c)
 unfolding read Own
-refuse-if l ok s c bad number back h = read-hands l ok s {R = ℕ} {A = ℕ} (fails bad number back (ends 0)) (h, tt) c
+refuse-if l ok s c bad number back h = read-hands l ok {R = ℕ} {A = ℕ} s (fails bad number back (ends 0)) (h, tt) c
 
 pub cut-refuses : (s : List ℕ) (p end : ℕ) → Refuses ofBits p (cut s p end)
 unfolding cut

@@ -2,11 +2,13 @@
 -- One induction for all field types and all tables.
 use Prim.Native.Nat.{ℕ, zero, suc, _+_, _-_, _*_, _/_, _%_, _^_, _≤_}
 use native.Mathlib.Omega.{arith}
+use native.Mathlib.Nat.{le-refl}
 use mathlib.Core.Path.{_≡_, refl, sym, _∙_, ap}
 use mathlib.Core.Logic.{_⊎_, inl, inr, ⊎-elim}
 use mathlib.Core.List.{List, [], _∷_}
 use mathlib.Core.Bool.{Bool, true, false, _&&_}
 use lib.Dec.{eqb, leb}
+use borrow.Author.Tests.{leb-true}
 use Rattle.bits.specs.declared.Refusal.{Refusal}
 use Rattle.bits.specs.declared.Cursor.{Cursor}
 use Rattle.bits.specs.declared.Field.{Field}
@@ -17,7 +19,7 @@ use Rattle.bits.specs.Steps.{Steps, gives, refuses, takes, passes, cut, cutAt, 
 use Rattle.bits.specs.Codec.{Codec, u, bool, u32, cases, u64, f16, padding, skip, steps, chosen, more, field}
 use Rattle.bits.specs.Table.{Table, ends, row, fails, failed, read, bind, within, times}
 use Rattle.bits.specs.Extensions.{lengths, extensions}
-use Rattle.bits.proofs.Reading.{picked, field-within, failed-same, read-within-end, fault-stays}
+use Rattle.bits.proofs.Reading.{picked, failed-same, fault-stays}
 use Rattle.bits.proofs.Numbered.{of-both}
 use Rattle.grid.proofs.Accepted.{and-parts}
 use Rattle.theorems.specs.Refusing.{among, rules, Refuses, Hands}
@@ -78,20 +80,31 @@ module _ (l : List ℕ) (ok : rules l ≡ true) where
       (four .0, λ x. of-both Low (eqb x 0) (gives 0) (refuses 12) tt twelve)
   low (skip n) p h = (and-parts _ _ h .0, tt)
 
-  module _ (s : List ℕ) where
+  module _ (s : List ℕ) (last : ℕ) (behind : bitCount s ≤ last) where
     abbrev Fine : Refusal → Type 0
-    Fine r = Refuses l (bitCount s) r
+    Fine r = Refuses l last r
 
-    run-refuses : (t : Steps) → Low t → (p q : ℕ) → p ≤ bitCount s → Fine (run t s p q .next .fault)
+    run-refuses : (t : Steps) → Low t → (p q : ℕ) → p ≤ last → Fine (run t s p q .next .fault)
     unfolding run cut
-    run-refuses (gives v) h p q i = refuses-none l (bitCount s) ok
-    run-refuses (refuses n) h p q i = refuses-with l (bitCount s) n p ok h i
+    run-refuses (gives v) h p q i = refuses-none l last ok
+    run-refuses (refuses n) h p q i = refuses-with l last n p ok h i
     run-refuses (takes n f) h p q i =
         of-both (λ (r : Field). Fine (r .next .fault)) (there s q n) (run (f (bitsAt s q n)) s p (q + n)) (cutAt s p (q + n))
-        (run-refuses (f (bitsAt s q n)) (h .1 (bitsAt s q n)) p (q + n) i) (refuses-with l (bitCount s) 4 p ok (h .0) i)
+        (run-refuses (f (bitsAt s q n)) (h .1 (bitsAt s q n)) p (q + n) i) (refuses-with l last 4 p ok (h .0) i)
     run-refuses (passes n t) h p q i =
         of-both (λ (r : Field). Fine (r .next .fault)) (leb (q + n) (bitCount s)) (run t s p (q + n)) (cutAt s p (q + n))
-        (run-refuses t (h .1) p (q + n) i) (refuses-with l (bitCount s) 4 p ok (h .0) i)
+        (run-refuses t (h .1) p (q + n) i) (refuses-with l last 4 p ok (h .0) i)
+
+    run-at : (t : Steps) (p q : ℕ) → p ≤ last → q ≤ last → run t s p q .next .at ≤ last
+    unfolding run
+    run-at (gives v) p q i j = j
+    run-at (refuses n) p q i j = i
+    run-at (takes n f) p q i j =
+        picked (λ (r : Field). r .next .at ≤ last) (there s q n) (run (f (bitsAt s q n)) s p (q + n)) (cutAt s p (q + n))
+        (λ t. run-at (f (bitsAt s q n)) p (q + n) i (omega (arith, behind, leb-true (q + n) (bitCount s) (and-parts (leb n 32) (leb (q + n) (bitCount s)) t .1)))) (λ t. i)
+    run-at (passes n t) p q i j =
+        picked (λ (r : Field). r .next .at ≤ last) (leb (q + n) (bitCount s)) (run t s p (q + n)) (cutAt s p (q + n))
+        (λ e. run-at t p (q + n) i (omega (arith, behind, leb-true (q + n) (bitCount s) e))) (λ e. i)
 
     -- as it was, or refused
     abbrev Kept : Refusal → Refusal → Type 0
@@ -103,40 +116,47 @@ module _ (l : List ℕ) (ok : rules l ≡ true) where
     kept-on a b c (inl e) (inr r) = inr r
     kept-on a b c (inr q) (inr r) = inr r
 
-    field-kept : (on : Bool) (k : Codec) (d : ℕ) (c : Cursor) → holds l (ownOf k) ≡ true → c .at ≤ bitCount s → Kept (c .fault) (field s on k d c .next .fault)
+    field-kept : (on : Bool) (k : Codec) (d : ℕ) (c : Cursor) → holds l (ownOf k) ≡ true → c .at ≤ last → Kept (c .fault) (field s on k d c .next .fault)
     unfolding field
     field-kept on k d c h i =
         of-both (λ (r : Field). Kept (c .fault) (r .next .fault)) (on && clear c) (run (steps k (c .at)) s (c .at) (c .at)) (record { value = d; next = c })
         (inr (run-refuses (steps k (c .at)) (low k (c .at) h) (c .at) (c .at) i)) (inl refl)
 
-    failed-kept : (bad : Bool) (number back : ℕ) (c : Cursor) → among l number ≡ true → c .at ≤ bitCount s → Kept (c .fault) (failed bad number back c .fault)
+    field-at : (on : Bool) (k : Codec) (d : ℕ) (c : Cursor) → c .at ≤ last → field s on k d c .next .at ≤ last
+    unfolding field
+    field-at on k d c i =
+        of-both (λ (r : Field). r .next .at ≤ last) (on && clear c) (run (steps k (c .at)) s (c .at) (c .at)) (record { value = d; next = c }) (run-at (steps k (c .at)) (c .at) (c .at) i i) i
+
+    failed-kept : (bad : Bool) (number back : ℕ) (c : Cursor) → among l number ≡ true → c .at ≤ last → Kept (c .fault) (failed bad number back c .fault)
     unfolding failed
     failed-kept bad number back c h i =
         of-both (λ (r : Cursor). Kept (c .fault) (r .fault)) (bad && clear c) (record { at = c .at; fault = refusal number (c .at - back) }) c
-        (inr (refuses-with l (bitCount s) number (c .at - back) ok h (omega (arith, i)))) (inl refl)
+        (inr (refuses-with l last number (c .at - back) ok h (omega (arith, i)))) (inl refl)
 
-    read-kept : {R A : Type 0} (t : Table R A) → Own l t → (c : Cursor) → c .at ≤ bitCount s → Kept (c .fault) (read t s c .next .fault)
+    read-kept : {R A : Type 0} (t : Table R A) → Own l t → (c : Cursor) → c .at ≤ last → Kept (c .fault) (read t s c .next .fault) × (read t s c .next .at ≤ last)
     unfolding read Own
-    read-kept (ends a) h c i = inl refl
+    read-kept (ends a) h c i = (inl refl, i)
     read-kept (row on k d v rest) h c i =
         let f : Field = field s on k d c in
-        kept-on (c .fault) (f .next .fault) _ (field-kept on k d c (h .0) i) (read-kept (rest (f .value)) (h .1 (f .value)) (f .next) (field-within s on k d c i))
+        let more = read-kept (rest (f .value)) (h .1 (f .value)) (f .next) (field-at on k d c i) in
+        (kept-on (c .fault) (f .next .fault) _ (field-kept on k d c (h .0) i) (more .0), more .1)
     read-kept (fails bad number back rest) h c i =
         let g : Cursor = failed bad number back c in
-        kept-on (c .fault) (g .fault) _ (failed-kept bad number back c (h .0) i) (read-kept rest (h .1) g (rw (failed-same bad number back c) i))
+        let more = read-kept rest (h .1) g (rw (failed-same bad number back c) i) in
+        (kept-on (c .fault) (g .fault) _ (failed-kept bad number back c (h .0) i) (more .0), more .1)
 
-    -- whatever a table reads
-    pub read-hands : {R A : Type 0} (t : Table R A) → Own l t → (c : Cursor) → Hands l s c (read t s c .next)
-    read-hands t h c = record { stays = fault-stays t s c; faults = λ i. read-kept t h c i; within = λ i. read-within-end t s c i }
+  -- whatever a table reads
+  pub read-hands : {R A : Type 0} (s : List ℕ) (t : Table R A) → Own l t → (c : Cursor) → Hands l s c (read t s c .next)
+  read-hands s t h c = record { stays = fault-stays t s c; faults = λ last b i. read-kept s last b t h c i .0; within = λ last b i. read-kept s last b t h c i .1 }
 
-    -- a field is a table of one row
-    pub field-hands : (on : Bool) (k : Codec) (d : ℕ) (c : Cursor) → holds l (ownOf k) ≡ true → Hands l s c (field s on k d c .next)
-    unfolding read Own
-    field-hands on k d c h = read-hands {R = ℕ} (row on k d (λ r. r) (λ n. ends n)) (h, λ n. tt) c
+  -- a field is a table of one row
+  pub field-hands : (s : List ℕ) (on : Bool) (k : Codec) (d : ℕ) (c : Cursor) → holds l (ownOf k) ≡ true → Hands l s c (field s on k d c .next)
+  unfolding read Own
+  field-hands s on k d c h = read-hands {R = ℕ} s (row on k d (λ r. r) (λ n. ends n)) (h, λ n. tt) c
 
-    -- from a place where nothing was refused yet
-    pub read-refuses : {R A : Type 0} (t : Table R A) → Own l t → (p : ℕ) → p ≤ bitCount s → Refuses l (bitCount s) (read t s (start p) .next .fault)
-    read-refuses t h p i = ⊎-elim (λ e. rw e (refuses-none l (bitCount s) ok)) (λ r. r) (read-kept t h (start p) i)
+  -- from a place within the input, where nothing was refused yet
+  pub read-refuses : {R A : Type 0} (s : List ℕ) (t : Table R A) → Own l t → (p : ℕ) → p ≤ bitCount s → Refuses l (bitCount s) (read t s (start p) .next .fault)
+  read-refuses s t h p i = ⊎-elim (λ e. rw e (refuses-none l (bitCount s) ok)) (λ r. r) (read-kept s (bitCount s) (le-refl (bitCount s)) t h (start p) i .0)
 
 -- tables one after another, inside each other, and repeated
 pub own-bind : {R A B : Type 0} (l : List ℕ) (t : Table R A) (f : A → Table R B) → Own l t → ((a : A) → Own l (f a)) → Own l (bind t f)

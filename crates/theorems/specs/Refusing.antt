@@ -134,12 +134,12 @@ pub record Needs (needs : Bool) (last word : ℕ) (before after : TocLent) : Typ
 abbrev pub TocWordEnds : List ℕ → Bool → ℕ → ℕ → TocLent → TocLent → Type 0
 TocWordEnds numbers needs last word before after = WordEnds numbers last word before after ⊎ Needs needs last word before after
 
--- A reader hands on a cursor. After a fault nothing is read. Else, from a place within the input, the fault is as it was (none), or one of the reader's
--- numbers at a place within the input, and so is the place that is handed on.
+-- A reader hands on a cursor. After a fault nothing is read. Else the fault is as it was (none), or one of the reader's numbers at a place that is no
+-- further than the end of the input, or than the cursor where that is behind the end; and no further is the place that is handed on.
 pub record Hands (numbers s : List ℕ) (c next : Cursor) : Type 0 where
   pub stays : clear c ≡ false → next ≡ c
-  pub faults : c .at ≤ bitCount s → (next .fault ≡ c .fault) ⊎ Refuses numbers (bitCount s) (next .fault)
-  pub within : c .at ≤ bitCount s → next .at ≤ bitCount s
+  pub faults : (last : ℕ) → bitCount s ≤ last → c .at ≤ last → (next .fault ≡ c .fault) ⊎ Refuses numbers last (next .fault)
+  pub within : (last : ℕ) → bitCount s ≤ last → c .at ≤ last → next .at ≤ last
 
 -- ---- the numbers of each function, in the order in which they are given
 
