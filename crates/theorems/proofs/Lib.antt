@@ -10,14 +10,11 @@ pub mod Refusing
 pub mod GridEnds
 pub mod SectionEnds
 pub mod Readers
-pub mod TocEnds
 pub mod ReaderEnds
 pub mod HeaderEnds
+pub mod TocEnds
 pub mod ListingEnds
 pub mod WordEnds
-pub mod GridRefusals
-pub mod HeaderRefusals
-pub mod TocRefusals
 pub mod Status
 pub mod Numerals
 pub mod Once
