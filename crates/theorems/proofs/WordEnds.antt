@@ -39,7 +39,7 @@ use Rattle.c_words.specs.Answers.{Answer, refusalFor, Given}
 use Rattle.c_words.specs.Records.{sectionNumber, sentNumber, numberAnswer, touchAnswer, sectionAnswer, sentAnswer, placedAnswer, gridAnswer, kindAnswer, placeAnswer, kindNamed, sectionOfNumbers}
 use Rattle.c_words.specs.Layouts.{layoutAnswer, layoutBy, sectionBy}
 use Rattle.c_words.specs.Contents.{tocStatus, tocAfter, noRoom, roomedReading, Listed}
-use Rattle.c_words.specs.Heading.{Buffers, buffers, HeadRead, recordRoom, noRecord, judgedAll, wordsAfter, signedAfter, floatsAfter}
+use Rattle.c_words.specs.Heading.{Buffers, buffers, HandedOut, HeadRead, recordRoom, noRecord, judgedAll, wordsAfter, signedAfter, floatsAfter}
 use Rattle.theorems.specs.Refusing.{among, rules, Refuses, Ends, Tells, SectionEnds, held, WordEnds, TocLent, ListLent, Needs, TocWordEnds, ofFrame, ofIndex, ofFrameRoom, ofIndexRoom, ofLayout, ofLayoutRoom, ofSent, ofSentRoom, ofToc, ofTocOrder, ofTocRoom, ofFacts, ofHeader, ofText}
 use Rattle.theorems.proofs.Refusing.{holds, ruled, refuses-none, refuses-with, refuses-pick, refuses-more, beside}
 use Rattle.theorems.proofs.GridEnds as grid
@@ -186,8 +186,8 @@ abbrev lent : Tables → List ℕ → TocLent
 lent t out = record { tables = t; words = out }
 
 module _ (l : List ℕ) (ok : rules l ≡ true) (needs : Bool) (last : ℕ) (big : last < 2 ^ 56) where
-  -- what is told of an answer, the word holds
-  answer-word : (a : TocRead) (before after : Tables) (out : List ℕ) → Tells l needs last before after a
+  -- `give_toc`: what is told of an answer, the word holds
+  pub answer-word : (a : TocRead) (before after : Tables) (out : List ℕ) → Tells l needs last before after a
       → TocWordEnds l needs last (tocStatus a) (lent before out) (lent after (tocAfter a out))
   answer-word (Table toc) before after out h = inl (record { refuses = refuses-none l last ok; either = λ some. absurd (some refl) })
   answer-word (OrderNeeded place) before after out h =
@@ -236,6 +236,21 @@ hingevale-read-toc-with-order s f place order t word o z p i out out' d =
     (roomed-tells ofTocOrder refl false (bitCount s) big s f out (secondReading s f place order t) t refl (second-tells s f place order t)) d
 
 -- ---- the header entry
+
+-- whatever record is handed out
+pub give-record : (l : List ℕ) (last : ℕ) (a : HeaderTold) (word : ℕ) (w w' : List ℕ) (i i' : List ℤ) (r r' : List Float) → last < 2 ^ 56 → Refuses l last (a .refusal)
+    → HandedOut a word w w' i i' r r' → WordEnds {A = List ℕ × List ℤ × List Float} l last word (w, i, r) (w', i', r')
+give-record l last a word w w' i i' r r' big d h =
+    worded {A = List ℕ × List ℤ × List Float} l last (a .refusal) word (w, i, r) (w', i', r') big (h .status)
+    (record {
+      refuses = d;
+      either =
+          λ some.
+          let x : w' ≡ w = h .numbers ∙ beside (a .refusal) (wordsAfter a w) w some in
+          let y : i' ≡ i = h .signs ∙ beside (a .refusal) (signedAfter (a .header) i) i some in
+          let z : r' ≡ r = h .reals ∙ beside (a .refusal) (floatsAfter (a .header .«restoration_filter») r) r some in
+          rw (x, y, z);
+    })
 
 pub judged-all : (s : List ℕ) (f : Facts) (b : Buffers) → Refuses ofFacts 0 (judgedAll s f b)
 unfolding judgedAll
