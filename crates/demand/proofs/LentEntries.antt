@@ -1,5 +1,5 @@
 -- The entries of C: where their status is 0, what the words say that they left. With these the demand holds of the look-ups' words.
-use Prim.Native.Nat.{ℕ, _-_, _%_, _≤_, _<_}
+use Prim.Native.Nat.{ℕ, _-_, _%_, _≤_, _<_, _^_}
 use native.Mathlib.Omega.{arith}
 use mathlib.Core.Path.{_≡_, refl, sym, _∙_, ap}
 use mathlib.Core.Logic.{inl}
@@ -28,14 +28,17 @@ use Rattle.toc.specs.declared.Toc.{Toc}
 use Rattle.toc.specs.declared.TocRead.{TocRead}
 use Rattle.toc.specs.declared.TocRead.the-variants.{Table, OrderNeeded, Refused}
 use Rattle.toc.specs.Sizes.{sizeRows, tocRows}
-use Rattle.toc.specs.Reading.{Tables, tables, judged as judgedToc, judgedOrder, Reading, tocOf, sizedAnswer, firstRead, secondRead, refusedRead, firstReading, secondReading, Done, tocNumbers}
+use Rattle.toc.specs.Reading.{Tables, tables, judged as judgedToc, judgedOrder, Reading, tocOf, sizedAnswer, firstRead, secondRead, refusedRead, firstReading, secondReading, Done, tocNumbers, after}
 use Rattle.toc.proofs.Accepted.{first-accepted, not-refused}
 use Rattle.c_words.specs.Contents.{tocStatus, tocAfter, noRoom, roomedReading, Listed}
 use Rattle.c_words.specs.Heading.{frontWords, backWords, frontAfter, arraysAfter, wordsAfter, recordRoom, noRecord, Buffers, judgedAll, HeadRead}
 use Rattle.c_words.proofs.Recording.{not-none}
 use Rattle.theorems.proofs.Tables.{second-accepted}
-use Rattle.theorems.proofs.TocRefusals.{Told}
-use Rattle.theorems.proofs.Status.{none-told, first-word, second-word, head-told, words-written}
+use Rattle.bits.specs.Bits.{bitCount}
+use Rattle.theorems.specs.Refusing.{Tells, held, ofToc, ofTocOrder}
+use Rattle.theorems.proofs.TocEnds.{first-tells, second-tells}
+use Rattle.theorems.proofs.WordEnds.{status-held, some-number, roomed-tells}
+use Rattle.theorems.proofs.Status.{head-told, words-written}
 use Rattle.demand.specs.Frames.{HandedOn}
 use Rattle.demand.specs.Lent.{frameBy, FrameBy, LentWhole, LentBytes}
 use Rattle.demand.proofs.Theorem.{first-whole, second-whole, first-table, second-table}
@@ -45,60 +48,19 @@ use Rattle.demand.proofs.Lent.{lent-whole}
 
 -- ---- a section entry's status of 0 is a table
 
--- a refusal has a number
-abbrev Some : ℕ → Type 0
-Some n = n ≡ 0 → ⊥
-
-sized-some : (count : ℕ) (sizes : List ℕ) (c : Cursor) → Refuses Some (sizedAnswer count sizes c)
-unfolding sizedAnswer
-sized-some count sizes c =
-    picked (Refuses Some) (clear c) (Table (tocOf count sizes c)) (Refused (c .fault)) (λ e. tt) (λ e. eqb-false (c .fault .number) 0 e)
-
-abbrev Answers : Reading → Type 0
-Answers q = Refuses Some (q .answer)
-
-first-some : (s : List ℕ) (f : Frame) (place : ℕ) (t : Tables) → Answers (firstReading s f place t)
-unfolding firstReading firstRead refusedRead
-first-some s f place t =
-    let count : ℕ = gridOf f .sections in
-    let out = read (tocRows count) s (start place) in
-    picked Answers (eqb (judgedToc s (gridOf f) place t .number) 0) (firstRead count out) (refusedRead (judgedToc s (gridOf f) place t))
-    (λ e. of-both (Refuses Some) (eqb (out .value .permuted) 0) (sizedAnswer count (out .value .sizes) (out .next)) (OrderNeeded (out .next .at))
-    (sized-some count (out .value .sizes) (out .next)) tt)
-    (λ e. eqb-false (judgedToc s (gridOf f) place t .number) 0 e)
-
-second-some : (s : List ℕ) (f : Frame) (place : ℕ) (lent : List ℕ) (t : Tables) → Answers (secondReading s f place lent t)
-unfolding secondReading secondRead refusedRead
-second-some s f place lent t =
-    let count : ℕ = gridOf f .sections in
-    let out = read (sizeRows count) s (start place) in
-    picked Answers (eqb (judgedOrder s (gridOf f) place lent t .number) 0) (secondRead count lent out)
-    (refusedRead (judgedOrder s (gridOf f) place lent t))
-    (λ e. sized-some count (out .value) (out .next))
-    (λ e. eqb-false (judgedOrder s (gridOf f) place lent t .number) 0 e)
-
-room-some : (n : ℕ) (f : Frame) → Some (noRoom n f .number)
-unfolding noRoom
-room-some n f =
-    of-both (λ (r : Refusal). Some (r .number)) (ltb 16777216 n) (refusal 2 0)
-    (pick (eqb (gridOf f .refusal .number) 0) (refusal 3 0) (gridOf f .refusal)) (λ e. omega arith)
-    (picked (λ (r : Refusal). Some (r .number)) (eqb (gridOf f .refusal .number) 0) (refusal 3 0) (gridOf f .refusal) (λ e z. omega arith)
-    (λ e. eqb-false (gridOf f .refusal .number) 0 e))
-
-table-by : (a : TocRead) → Told a → Refuses Some a → tocStatus a ≡ 0 → (toc : Toc) × (a ≡ Table toc)
-table-by (Table toc) k h e = (toc, refl)
-table-by (OrderNeeded place) k h e = absurd (omega arith)
-table-by (Refused r) k h e = absurd (h (none-told r (k .0) e))
+table-by : {A : Type 0} (l : List ℕ) (needs : Bool) (last : ℕ) (before after : A) (a : TocRead) → last < 2 ^ 56 → Tells l needs last before after a
+    → tocStatus a ≡ 0 → (toc : Toc) × (a ≡ Table toc)
+table-by l needs last before after (Table toc) big h e = (toc, refl)
+table-by l needs last before after (OrderNeeded place) big h e = absurd (omega arith)
+table-by l needs last before after (Refused r) big h e =
+    absurd (h .0 (ap (λ (x : Refusal). x .number) (sym (status-held l last r big (h .1)) ∙ ap held e)))
 
 -- with what the slice of three words asks
-module _ (s : List ℕ) (f : Frame) (t : Tables) (q : Reading) (out : List ℕ) (told : Told (roomedReading s f out q .answer)) (some : Answers q) where
-  roomed-some : Answers (roomedReading s f out q)
-  unfolding roomedReading refusedRead
-  roomed-some = of-both Answers (ltb (length out) 3) (refusedRead (noRoom (length s) f)) q (room-some (length s) f) some
-
-  module _ (status : ℕ) (o z p i out' : List ℕ) (l : Listed (roomedReading s f out q) t status o z p i out out') (zero : status ≡ 0) where
+module _ (s : List ℕ) (f : Frame) (t : Tables) (q : Reading) (out l : List ℕ) (needs : Bool)
+    (tells : Tells l needs (bitCount s) t (after (roomedReading s f out q) t) (roomedReading s f out q .answer)) where
+  module _ (status : ℕ) (o z p i out' : List ℕ) (d : Listed (roomedReading s f out q) t status o z p i out out') (zero : status ≡ 0) where
     tabled : (toc : Toc) × (roomedReading s f out q .answer ≡ Table toc)
-    tabled = table-by (roomedReading s f out q .answer) told roomed-some (sym (l .status) ∙ zero)
+    tabled = table-by l needs (bitCount s) t _ (roomedReading s f out q .answer) (omega arith) tells (sym (d .status) ∙ zero)
 
     pub toc : Toc
     toc = tabled .0
@@ -107,7 +69,7 @@ module _ (s : List ℕ) (f : Frame) (t : Tables) (q : Reading) (out : List ℕ) 
     unfolding roomedReading refusedRead
     roomed =
         split (ltb (length out) 3)
-        (λ e. absurd (not-refused (noRoom (length s) f) (tabled .0) (roomedReading s f out q .answer) (room-some (length s) f) (rw e) (tabled .1)))
+        (λ e. absurd (not-refused (noRoom (length s) f) (tabled .0) (roomedReading s f out q .answer) (some-number (length s) f) (rw e) (tabled .1)))
         (λ e. (ltb-false (length out) 3 e, rw e))
 
     -- the entry's promise, as the function without words has it
@@ -117,15 +79,15 @@ module _ (s : List ℕ) (f : Frame) (t : Tables) (q : Reading) (out : List ℕ) 
         let e = roomed .1 in
         record {
           answer = ap tocNumbers (sym (tabled .1) ∙ ap (λ (r : Reading). r .answer) e);
-          offsets = rw e at (l .offsets);
-          sizes = rw e at (l .sizes);
-          order = rw e at (l .order);
-          inverse = rw e at (l .inverse);
+          offsets = rw e at (d .offsets);
+          sizes = rw e at (d .sizes);
+          order = rw e at (d .order);
+          inverse = rw e at (d .inverse);
         }
 
     out-is : out' ≡ sets out 0 (toc .count ∷ toc .bookmark ∷ toc .«total_byte_size» ∷ [])
     unfolding toc
-    out-is = l .words ∙ ap (λ (a : TocRead). tocAfter a out) (tabled .1)
+    out-is = d .words ∙ ap (λ (a : TocRead). tocAfter a out) (tabled .1)
 
     -- the three words
     word-is : (k : ℕ) → k < 3 → getD out' k 0 ≡ getD (toc .count ∷ toc .bookmark ∷ toc .«total_byte_size» ∷ []) (k - 0) 0
@@ -254,7 +216,7 @@ module _ (facts : Facts) (s : List ℕ) (word : ℕ) (before after : Buffers) (h
   said = answered facts (judgedAll s facts before) (stands facts s)
 
   said-none : said .refusal .number ≡ 0
-  said-none = sym (head-told facts s word before after header .0) ∙ ap (λ (n : ℕ). n % 256) accepted
+  said-none = ap (λ (r : Refusal). r .number) (sym (head-told facts s word before after header) ∙ ap held accepted)
 
   judged-none : judgedAll s facts before .number ≡ 0
   judged-none = unrefused facts s (judgedAll s facts before) (facts-good facts s before) said-none .0
@@ -297,15 +259,14 @@ pub first-lent : (s : List ℕ) (f : Frame) (place : ℕ) (t : Tables) (status :
     → LentWhole f (getD out' 0 0) (getD out' 1 0) (getD out' 2 0) (identity (getD out' 0 0)) (firstReading s f place t .sizes) (tables o z p i)
 first-lent s f place t status o z p i out out' l zero =
     let q : Reading = firstReading s f place t in
-    let told = first-word s f place t out in
-    let some = first-some s f place t in
-    let d = done s f t q out told some status o z p i out' l zero in
-    let x : Toc = toc s f t q out told some status o z p i out' l zero in
-    let n : getD out' 0 0 ≡ x .count = count-word s f t q out told some status o z p i out' l zero in
+    let tells = roomed-tells ofToc refl true (bitCount s) (omega arith) s f out q t refl (first-tells s f place t) in
+    let d = done s f t q out ofToc true tells status o z p i out' l zero in
+    let x : Toc = toc s f t q out ofToc true tells status o z p i out' l zero in
+    let n : getD out' 0 0 ≡ x .count = count-word s f t q out ofToc true tells status o z p i out' l zero in
     let a = first-accepted s f place t x (first-table s f place t x o z p i d) .0 in
     let whole = first-whole s f place t x o z p i d in
-    reworded f x _ _ _ _ (q .sizes) (tables o z p i) n (start-word s f t q out told some status o z p i out' l zero)
-    (total-word s f t q out told some status o z p i out' l zero)
+    reworded f x _ _ _ _ (q .sizes) (tables o z p i) n (start-word s f t q out ofToc true tells status o z p i out' l zero)
+    (total-word s f t q out ofToc true tells status o z p i out' l zero)
     (lent-whole f x (identity (getD out' 0 0)) (q .sizes) (tables o z p i) (a .frame) (a .count) (rw n whole))
 
 -- `hingevale_read_toc_with_order`, by its promise
@@ -314,15 +275,14 @@ pub second-lent : (s : List ℕ) (f : Frame) (place : ℕ) (order : List ℕ) (t
     → LentWhole f (getD out' 0 0) (getD out' 1 0) (getD out' 2 0) order (secondReading s f place order t .sizes) (tables o z p i)
 second-lent s f place order t status o z p i out out' l zero =
     let q : Reading = secondReading s f place order t in
-    let told = second-word s f place order t out in
-    let some = second-some s f place order t in
-    let d = done s f t q out told some status o z p i out' l zero in
-    let x : Toc = toc s f t q out told some status o z p i out' l zero in
+    let tells = roomed-tells ofTocOrder refl false (bitCount s) (omega arith) s f out q t refl (second-tells s f place order t) in
+    let d = done s f t q out ofTocOrder false tells status o z p i out' l zero in
+    let x : Toc = toc s f t q out ofTocOrder false tells status o z p i out' l zero in
     let a = second-accepted s f place order t x (second-table s f place order t x o z p i d) .0 in
     let whole = second-whole s f place order t x o z p i d in
-    reworded f x _ _ _ _ (q .sizes) (tables o z p i) (count-word s f t q out told some status o z p i out' l zero)
-    (start-word s f t q out told some status o z p i out' l zero)
-    (total-word s f t q out told some status o z p i out' l zero)
+    reworded f x _ _ _ _ (q .sizes) (tables o z p i) (count-word s f t q out ofTocOrder false tells status o z p i out' l zero)
+    (start-word s f t q out ofTocOrder false tells status o z p i out' l zero)
+    (total-word s f t q out ofTocOrder false tells status o z p i out' l zero)
     (lent-whole f x order (q .sizes) (tables o z p i) (a .frame) (a .count) whole)
 
 -- and from the header's bytes on: `hingevale_read_frame_header` left `after`, its status is 0, and the section entry was asked with six numbers of

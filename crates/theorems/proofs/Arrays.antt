@@ -3,14 +3,17 @@
 use Prim.Native.Nat.{ℕ, _+_, _≤_, _<_}
 use native.Mathlib.Omega.{arith}
 use mathlib.Core.Path.{_≡_, refl, _∙_, ap}
+use mathlib.Core.Bool.{true}
 use mathlib.Core.List.{List, _++_}
 use lib.Dec.{eqb}
 use lib.ListN.{length, getD, take, drop}
 use lib.Seq.{sets-eq, take-at, drop-at}
-use borrow.Author.Tests.{le-leb}
+use borrow.Author.Tests.{le-leb, eqb-true}
 use Rattle.bits.specs.declared.Refusal.{Refusal}
 use Rattle.bits.specs.Refusals.{refusal, none}
+use Rattle.bits.specs.Bits.{bitCount}
 use Rattle.bits.proofs.Numbered.{Known, of-both}
+use Rattle.order.proofs.Entries.{split}
 use Rattle.grid.specs.declared.Frame.{Frame}
 use Rattle.order.specs.Sums.{sumTo}
 use Rattle.order.proofs.Reach.{order-below}
@@ -28,8 +31,10 @@ use Rattle.listing.specs.Text.{refusedText}
 use Rattle.listing.specs.Listed.{listing}
 use Rattle.listing_job.specs.Line.{goodLine, factsOf, frameBytes}
 use Rattle.listing_job.specs.Job.{blank, readText, readingText, sectionsText, headed, headerText, jobText}
-use Rattle.theorems.proofs.HeaderRefusals.{judged-known, answered-known}
-use Rattle.theorems.proofs.TocRefusals.{Told, first-told}
+use Rattle.theorems.specs.Refusing.{Refuses, Tells, ofHeader, ofToc}
+use Rattle.theorems.proofs.Refusing.{ruled}
+use Rattle.theorems.proofs.HeaderEnds.{judge-header, answered-refuses}
+use Rattle.theorems.proofs.TocEnds.{first-tells}
 use Rattle.theorems.proofs.Tables.{offset-at, size-at, before-small, total-by-section}
 use Rattle.theorems.proofs.Cuts.{same-text}
 use Rattle.theorems.proofs.Lengths.{refused-long, order-long, listing-long}
@@ -100,19 +105,27 @@ module _ (s : List ℕ) (f : Frame) (place : ℕ) (toc : Toc) (e : firstReading 
 abbrev Fits : List ℕ → Type 0
 Fits text = length text ≤ 81054
 
+-- a refusal of a reading has a number of the rules and a place within the longest input
+known-by : (l s : List ℕ) (r : Refusal) → Refuses l (bitCount s) r → Known r
+known-by l s r h =
+    split (eqb 0 (r .number))
+    (λ e. (omega (arith, eqb-true 0 (r .number) e), omega (arith, h .inside)))
+    (λ e. (ruled l (r .number) (h .ruled) (rw e at (h .listed)) .1, omega (arith, h .inside)))
+
 refused-fits : (r : Refusal) → Known r → Fits (refusedText r)
 refused-fits r k = omega (arith, refused-long r k)
 
-read-fits : (s : List ℕ) (f : Frame) (place : ℕ) (a : TocRead) → firstReading s f place blank .answer ≡ a → Told a
+read-fits : (s : List ℕ) (f : Frame) (place : ℕ) (a : TocRead) → firstReading s f place blank .answer ≡ a
+    → Tells ofToc true (bitCount s) blank (after (firstReading s f place blank) blank) a
     → Fits (readText f (after (firstReading s f place blank) blank) (firstReading s f place blank .order) a)
 unfolding readText
 read-fits s f place (Table toc) e k = table-long s f place toc e
-read-fits s f place (OrderNeeded p) e k = omega (arith, order-long p k)
-read-fits s f place (Refused r) e k = refused-fits r k
+read-fits s f place (OrderNeeded p) e k = omega (arith, order-long p (omega (arith, k .1)))
+read-fits s f place (Refused r) e k = refused-fits r (known-by ofToc s r (k .1))
 
 sections-fits : (s : List ℕ) (f : Frame) (place : ℕ) → Fits (sectionsText s f place)
 unfolding readingText
-sections-fits s f place = read-fits s f place (firstReading s f place blank .answer) refl (first-told s f place blank)
+sections-fits s f place = read-fits s f place (firstReading s f place blank .answer) refl (first-tells s f place blank)
 
 header-fits : (s : List ℕ) (facts : Facts) → Fits (headerText s facts)
 unfolding headerText
@@ -120,7 +133,7 @@ header-fits s facts =
     let h : HeaderTold = headed s facts in
     of-both Fits (eqb (h .refusal .number) 0) (sectionsText s (frameOf (h .header)) (h .end)) (refusedText (h .refusal))
     (sections-fits s (frameOf (h .header)) (h .end))
-    (refused-fits (h .refusal) (answered-known facts s (judged (length s) facts 1071 256 1024) (judged-known (length s) facts 1071 256 1024)))
+    (refused-fits (h .refusal) (known-by ofHeader s (h .refusal) (answered-refuses facts s (judged (length s) facts 1071 256 1024) (judge-header (length s) facts 1071 256 1024))))
 
 job-fits : (input : List ℕ) → Fits (jobText input)
 unfolding jobText

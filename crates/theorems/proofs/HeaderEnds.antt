@@ -24,7 +24,7 @@ use Rattle.header.specs.Blending.{blending, words}
 use Rattle.header.specs.Closing.{closing}
 use Rattle.header.specs.Header.{front, back, header}
 use Rattle.header.specs.Record.{numbersOf, zeroHeader}
-use Rattle.header.specs.Entry.{badFacts, noRoom, judged, stands, refusalOf, HeaderTold, told, refusedHeader, answered, kept, Headed}
+use Rattle.header.specs.Entry.{badFacts, noRoom, judged, stands, refusalOf, HeaderTold, told, refusedHeader, answered, bufferAfter, Headed}
 use Rattle.order.proofs.Entries.{split}
 use Rattle.theorems.specs.Refusing.{Refuses, Ends, headerSaid, ofFacts, ofHeader, ofFilter}
 use Rattle.theorems.proofs.Refusing.{holds, refuses-none, refuses-with, refuses-pick, refuses-more}
@@ -128,7 +128,7 @@ module _ (f : Facts) (s : List ℕ) (before : Refusal) (own : Refuses ofFacts 0 
     unfolding answered
     answered-zero = rw stopped
 
-    pub buffer-kept : (new buffer : List ℕ) → kept before (stands f s) new buffer ≡ buffer
+    pub buffer-kept : (new buffer : List ℕ) → bufferAfter before (stands f s) new buffer ≡ buffer
     buffer-kept new buffer = rw stopped
 
 pub read-frame-header : (f : Facts) (s : List ℕ) (r : HeaderAnswer) (name name' upsampling upsampling' blending blending' : List ℕ)

@@ -15,7 +15,7 @@ use Rattle.bits.specs.declared.Field.{Field}
 use Rattle.bits.specs.Refusals.{pick, refusal, none, start, clear}
 use Rattle.bits.specs.Bits.{bitsAt, bitCount, there}
 use Rattle.bits.specs.Half.{exponent}
-use Rattle.bits.specs.Steps.{Steps, gives, refuses, takes, passes, cut, cutAt, run}
+use Rattle.bits.specs.Steps.{Steps, gives, refuses, takes, skips, cut, cutAt, run}
 use Rattle.bits.specs.Codec.{Codec, u, bool, u32, cases, u64, f16, padding, skip, steps, chosen, more, field}
 use Rattle.bits.specs.Table.{Table, ends, row, fails, failed, read, bind, within, times}
 use Rattle.bits.specs.Extensions.{lengths, extensions}
@@ -48,7 +48,7 @@ module _ (l : List ℕ) (ok : rules l ≡ true) where
   Low (gives v) = Unit {0}
   Low (refuses n) = among l n ≡ true
   Low (takes n f) = (among l 4 ≡ true) × ((v : ℕ) → Low (f v))
-  Low (passes n t) = (among l 4 ≡ true) × Low t
+  Low (skips n t) = (among l 4 ≡ true) × Low t
 
   low-more : among l 4 ≡ true → (k v : ℕ) → Low (more k v)
   unfolding more
@@ -91,7 +91,7 @@ module _ (l : List ℕ) (ok : rules l ≡ true) where
     run-refuses (takes n f) h p q i =
         of-both (λ (r : Field). Fine (r .next .fault)) (there s q n) (run (f (bitsAt s q n)) s p (q + n)) (cutAt s p (q + n))
         (run-refuses (f (bitsAt s q n)) (h .1 (bitsAt s q n)) p (q + n) i) (refuses-with l last 4 p ok (h .0) i)
-    run-refuses (passes n t) h p q i =
+    run-refuses (skips n t) h p q i =
         of-both (λ (r : Field). Fine (r .next .fault)) (leb (q + n) (bitCount s)) (run t s p (q + n)) (cutAt s p (q + n))
         (run-refuses t (h .1) p (q + n) i) (refuses-with l last 4 p ok (h .0) i)
 
@@ -102,7 +102,7 @@ module _ (l : List ℕ) (ok : rules l ≡ true) where
     run-at (takes n f) p q i j =
         picked (λ (r : Field). r .next .at ≤ last) (there s q n) (run (f (bitsAt s q n)) s p (q + n)) (cutAt s p (q + n))
         (λ t. run-at (f (bitsAt s q n)) p (q + n) i (omega (arith, behind, leb-true (q + n) (bitCount s) (and-parts (leb n 32) (leb (q + n) (bitCount s)) t .1)))) (λ t. i)
-    run-at (passes n t) p q i j =
+    run-at (skips n t) p q i j =
         picked (λ (r : Field). r .next .at ≤ last) (leb (q + n) (bitCount s)) (run t s p (q + n)) (cutAt s p (q + n))
         (λ e. run-at t p (q + n) i (omega (arith, behind, leb-true (q + n) (bitCount s) e))) (λ e. i)
 

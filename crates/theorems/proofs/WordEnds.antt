@@ -185,6 +185,14 @@ hingevale-section-in words x y pass before word after g = given ofLayoutRoom ofL
 abbrev lent : Tables → List ℕ → TocLent
 lent t out = record { tables = t; words = out }
 
+-- no room for the three words is refused with a number
+pub some-number : (n : ℕ) (f : Frame) → noRoom n f .number ≡ 0 → ⊥
+unfolding noRoom
+some-number n f =
+    of-both (λ (r : Refusal). r .number ≡ 0 → ⊥) (ltb 16777216 n) (refusal 2 0) (pick (eqb (gridOf f .refusal .number) 0) (refusal 3 0) (gridOf f .refusal)) (λ z. omega arith)
+    (picked (λ (r : Refusal). r .number ≡ 0 → ⊥) (eqb (gridOf f .refusal .number) 0) (refusal 3 0) (gridOf f .refusal) (λ e z. omega arith)
+    (λ e. eqb-false (gridOf f .refusal .number) 0 e))
+
 module _ (l : List ℕ) (ok : rules l ≡ true) (needs : Bool) (last : ℕ) (big : last < 2 ^ 56) where
   -- `give_toc`: what is told of an answer, the word holds
   pub answer-word : (a : TocRead) (before after : Tables) (out : List ℕ) → Tells l needs last before after a
@@ -205,15 +213,7 @@ module _ (l : List ℕ) (ok : rules l ≡ true) (needs : Bool) (last : ℕ) (big
       let same : tables o z p i ≡ after q t = rw (d .offsets, d .sizes, d .order, d .inverse) in
       rw (d .status, same, d .words) (answer-word (q .answer) t (after q t) out h)
 
-  -- no room for the three words is refused with a number
-  some-number : (n : ℕ) (f : Frame) → noRoom n f .number ≡ 0 → ⊥
-  unfolding noRoom
-  some-number n f =
-      of-both (λ (r : Refusal). r .number ≡ 0 → ⊥) (ltb 16777216 n) (refusal 2 0) (pick (eqb (gridOf f .refusal .number) 0) (refusal 3 0) (gridOf f .refusal)) (λ z. omega arith)
-      (picked (λ (r : Refusal). r .number ≡ 0 → ⊥) (eqb (gridOf f .refusal .number) 0) (refusal 3 0) (gridOf f .refusal) (λ e z. omega arith)
-      (λ e. eqb-false (gridOf f .refusal .number) 0 e))
-
-  roomed-tells : (s : List ℕ) (f : Frame) (out : List ℕ) (q : Reading) (t : Tables) → holds l ofTocRoom ≡ true → Tells l needs last t (after q t) (q .answer)
+  pub roomed-tells : (s : List ℕ) (f : Frame) (out : List ℕ) (q : Reading) (t : Tables) → holds l ofTocRoom ≡ true → Tells l needs last t (after q t) (q .answer)
       → Tells l needs last t (after (roomedReading s f out q) t) (roomedReading s f out q .answer)
   unfolding roomedReading refusedRead written
   roomed-tells s f out q t h d =
