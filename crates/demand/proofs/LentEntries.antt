@@ -1,5 +1,5 @@
 -- The entries of C: where their status is 0, what the words say that they left. With these the demand holds of the look-ups' words.
-use Prim.Native.Nat.{ℕ, _-_, _%_, _≤_, _<_, _^_}
+use Prim.Native.Nat.{ℕ, _-_, _≤_, _<_, _^_}
 use native.Mathlib.Omega.{arith}
 use mathlib.Core.Path.{_≡_, refl, sym, _∙_, ap}
 use mathlib.Core.Logic.{inl}
@@ -11,13 +11,9 @@ use lib.Seq.{sets, length-sets, getD-set-same, getD-set-other}
 use borrow.Author.Tests.{eqb-true, eqb-false, leb-true, ltb-false}
 use Rattle.fill.proofs.Filling.{sets-inside, sets-outside}
 use Rattle.bits.specs.declared.Refusal.{Refusal}
-use Rattle.bits.specs.declared.Cursor.{Cursor}
-use Rattle.bits.specs.Refusals.{pick, refusal, start, clear}
-use Rattle.bits.specs.Table.{read}
-use Rattle.bits.proofs.Reading.{picked}
-use Rattle.bits.proofs.Numbered.{of-both}
+use Rattle.bits.specs.Refusals.{pick, refusal}
 use Rattle.grid.specs.declared.Frame.{Frame}
-use Rattle.grid.specs.Measured.{upsamples, goodRecord, gridOf}
+use Rattle.grid.specs.Measured.{upsamples, goodRecord}
 use Rattle.grid.proofs.Accepted.{Good, good, and-parts}
 use Rattle.header.specs.declared.Facts.{Facts}
 use Rattle.header.specs.Entry.{badFacts, judged, stands, answered, HeaderTold}
@@ -27,8 +23,7 @@ use Rattle.order.proofs.Entries.{split}
 use Rattle.toc.specs.declared.Toc.{Toc}
 use Rattle.toc.specs.declared.TocRead.{TocRead}
 use Rattle.toc.specs.declared.TocRead.the-variants.{Table, OrderNeeded, Refused}
-use Rattle.toc.specs.Sizes.{sizeRows, tocRows}
-use Rattle.toc.specs.Reading.{Tables, tables, judged as judgedToc, judgedOrder, Reading, tocOf, sizedAnswer, firstRead, secondRead, refusedRead, firstReading, secondReading, Done, tocNumbers, after}
+use Rattle.toc.specs.Reading.{Tables, tables, Reading, refusedRead, firstReading, secondReading, Done, tocNumbers, after}
 use Rattle.toc.proofs.Accepted.{first-accepted, not-refused}
 use Rattle.c_words.specs.Contents.{tocStatus, tocAfter, noRoom, roomedReading, Listed}
 use Rattle.c_words.specs.Heading.{frontWords, backWords, frontAfter, arraysAfter, wordsAfter, recordRoom, noRecord, Buffers, judgedAll, HeadRead}
@@ -43,7 +38,6 @@ use Rattle.demand.specs.Frames.{HandedOn}
 use Rattle.demand.specs.Lent.{frameBy, FrameBy, LentWhole, LentBytes}
 use Rattle.demand.proofs.Theorem.{first-whole, second-whole, first-table, second-table}
 use Rattle.demand.proofs.Headers.{handed-on, unrefused, judged-facts}
-use Rattle.demand.proofs.Refusals.{Refuses}
 use Rattle.demand.proofs.Lent.{lent-whole}
 
 -- ---- a section entry's status of 0 is a table

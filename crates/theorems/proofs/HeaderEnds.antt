@@ -1,8 +1,8 @@
 -- The header: 2, 1, 3, then 4, 5, 6 and 7 in reading order, at a place within the input; beside a refusal the zero record, and the lent buffers as they were.
 use Prim.Native.Nat.{ℕ}
 use native.Mathlib.Omega.{arith}
-use mathlib.Core.Path.{_≡_, refl, sym, _∙_, ap}
-use mathlib.Core.List.{List, [], _∷_}
+use mathlib.Core.Path.{_≡_, refl, _∙_, ap}
+use mathlib.Core.List.{List}
 use mathlib.Core.Bool.{Bool, true, false}
 use lib.Dec.{eqb, ltb}
 use lib.ListN.{length}
@@ -58,11 +58,16 @@ own-scales f o = (refl, λ shift. (refl, λ x. (refl, λ b. tt)))
 
 own-passes : (on : Bool) → Own ofHeader (passes on)
 unfolding passes Own
-own-passes on =
-    (refl, λ n. (refl, λ ds.
-    own-bind ofHeader _ _ (own-array _ _ 10 0 _ refl) (λ shift.
-    own-bind ofHeader _ _ (own-array _ _ 4 0 _ refl) (λ downsample.
-    own-bind ofHeader _ _ (own-array _ _ 4 0 _ refl) (λ last. tt)))))
+own-passes on = (
+  refl,
+  λ n. (
+    refl,
+    λ ds.
+        own-bind ofHeader _ _ (own-array _ _ 10 0 _ refl) (λ shift.
+        own-bind ofHeader _ _ (own-array _ _ 4 0 _ refl) (λ downsample.
+        own-bind ofHeader _ _ (own-array _ _ 4 0 _ refl) (λ last. tt))),
+  ),
+)
 
 own-placement : (f : Facts) (o : Opening) → Own ofHeader (placement f o)
 unfolding placement Own

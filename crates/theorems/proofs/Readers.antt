@@ -3,16 +3,16 @@
 use Prim.Native.Nat.{ℕ, zero, suc, _+_, _-_, _*_, _/_, _%_, _^_, _≤_}
 use native.Mathlib.Omega.{arith}
 use native.Mathlib.Nat.{le-refl}
-use mathlib.Core.Path.{_≡_, refl, sym, _∙_, ap}
+use mathlib.Core.Path.{_≡_, refl, _∙_}
 use mathlib.Core.Logic.{_⊎_, inl, inr, ⊎-elim}
 use mathlib.Core.List.{List, [], _∷_}
-use mathlib.Core.Bool.{Bool, true, false, _&&_}
+use mathlib.Core.Bool.{Bool, true, _&&_}
 use lib.Dec.{eqb, leb}
 use borrow.Author.Tests.{leb-true}
 use Rattle.bits.specs.declared.Refusal.{Refusal}
 use Rattle.bits.specs.declared.Cursor.{Cursor}
 use Rattle.bits.specs.declared.Field.{Field}
-use Rattle.bits.specs.Refusals.{pick, refusal, none, start, clear}
+use Rattle.bits.specs.Refusals.{pick, refusal, start, clear}
 use Rattle.bits.specs.Bits.{bitsAt, bitCount, there}
 use Rattle.bits.specs.Half.{exponent}
 use Rattle.bits.specs.Steps.{Steps, gives, refuses, takes, skips, cut, cutAt, run}
@@ -65,11 +65,13 @@ module _ (l : List ℕ) (ok : rules l ≡ true) where
       let five : among l 5 ≡ true = and-parts _ _ (four .1) .0 in
       (four .0, λ k. (four .0, λ x. of-both Low (leb n ((chosen d k .base + x) % 2 ^ 32)) (refuses 5) (gives ((chosen d k .base + x) % 2 ^ 32)) five tt))
   low u64 p h =
-      let four : among l 4 ≡ true = and-parts _ _ h .0 in
-      (four, λ k.
-      of-both Low (eqb k 0) (gives 0) (pick (eqb k 1) (takes 4 λ x. gives (1 + x)) (pick (eqb k 2) (takes 8 λ x. gives (17 + x)) (takes 12 λ x. more 6 x))) tt
-      (of-both Low (eqb k 1) (takes 4 λ x. gives (1 + x)) (pick (eqb k 2) (takes 8 λ x. gives (17 + x)) (takes 12 λ x. more 6 x)) (four, λ x. tt)
-      (of-both Low (eqb k 2) (takes 8 λ x. gives (17 + x)) (takes 12 λ x. more 6 x) (four, λ x. tt) (four, λ x. low-more four 6 x))))
+      let four : among l 4 ≡ true = and-parts _ _ h .0 in (
+        four,
+        λ k.
+            of-both Low (eqb k 0) (gives 0) (pick (eqb k 1) (takes 4 λ x. gives (1 + x)) (pick (eqb k 2) (takes 8 λ x. gives (17 + x)) (takes 12 λ x. more 6 x))) tt
+            (of-both Low (eqb k 1) (takes 4 λ x. gives (1 + x)) (pick (eqb k 2) (takes 8 λ x. gives (17 + x)) (takes 12 λ x. more 6 x)) (four, λ x. tt)
+            (of-both Low (eqb k 2) (takes 8 λ x. gives (17 + x)) (takes 12 λ x. more 6 x) (four, λ x. tt) (four, λ x. low-more four 6 x))),
+      )
   low f16 p h =
       let four = and-parts _ _ h in
       let six : among l 6 ≡ true = and-parts _ _ (four .1) .0 in
