@@ -1,5 +1,5 @@
--- The status words tell refusals whole: two refusals with the same word are the same, and beside a header entry's status of 0 the record is written whole,
--- what a caller may rest on who lends memory that holds nothing yet.
+-- The status words tell refusals whole: two refusals with the same word are the same, and beside a header entry's status of 0 the record is written
+-- whole, what a caller may rest on who lends memory that holds nothing yet.
 use Prim.Native.Nat.{ℕ, _+_, _*_, _/_, _%_, _≤_, _<_, _^_}
 use native.Mathlib.Nat.{mod-eq-of-lt}
 use native.Mathlib.Omega.{arith}
