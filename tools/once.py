@@ -4,8 +4,8 @@
 A promise is looked at as text: for the answer and for the final content of each lent `&mut` it has one equation whose right side speaks of what
 was passed alone (no answer, no final content), so that the law `once` (crates/bits/proofs/Once.antt) gives equality; or it is a record of such
 equations, for which a law named after it (`done-once` for `Done`) stands in some crate's proofs and is proved by `once`. An equation for what an
-answer tells (`kindTold r`) counts as one for the answer where a law named after it says so (`kind-once`). Prints what it found, every function for which
-none holds, and every function that docs/PROMISES.md doesn't name.
+answer tells (`kindTold r`) counts as one for the answer where a law named after it says so (`kind-once`). Prints what it found, every function for
+which none holds, and every function that docs/PROMISES.md doesn't name.
 """
 import glob
 import os

@@ -2,9 +2,9 @@
 """Holds text to one width, 150 columns. Run it at the project's root: tools/width.py [--write] [FILE ..]
 
 Lists the lines over it: in README.md and docs/*.md (but for tables, code blocks and lines with a link), in the comments of include/*.h, and in
-comment lines of .rt and .antt files (those that begin with // or --). --write breaks them: in a page the whole paragraph or list item is filled anew, its
-indentation kept; in comments what is over goes to the next line of the same comment, or to a line of its own. Lines within the width stay as they
-are where nothing flows into them. Named files are looked at in place of all.
+comment lines of .rt and .antt files (those that begin with // or --). --write breaks them: in a page the whole paragraph or list item is filled
+anew, its indentation kept; in comments what is over goes to the next line of the same comment, or to a line of its own. Lines within the width
+stay as they are where nothing flows into them; a C file is only listed. Named files are looked at in place of all.
 """
 import glob
 import re
@@ -41,16 +41,21 @@ def page(lines):
     blocks, fenced, before = [], False, ''
     for line in lines:
         mark = re.match(r'( *)(?:[-*+]|\d+[.)]) +', line)
-        kept = not line.strip() or re.match(r' *(\||#|>)', line)
+        kept = not line.strip() or re.match(r' *(\||#)', line)
         if line.lstrip().startswith('```'):
             fenced = not fenced
             kept = True
         code = line.startswith('    ') and not mark and (not before.strip() or (blocks and blocks[-1][1] is None)) and not listed(blocks)
         if fenced or kept or code:
             blocks.append([[line], None, None])
+        elif line.startswith('> '):
+            if blocks and blocks[-1][1] == '> ':
+                blocks[-1][0].append(line)
+            else:
+                blocks.append([[line], '> ', '> '])
         elif mark:
             blocks.append([[line], mark.group(0), ' ' * len(mark.group(0))])
-        elif before.strip() and blocks and blocks[-1][1] is not None:
+        elif before.strip() and blocks and blocks[-1][1] not in (None, '> '):
             blocks[-1][0].append(line)
         else:
             indent = re.match(r' *', line).group(0)
@@ -73,7 +78,8 @@ def fill_page(text):
         if first is None or not any(map(wide, lines)):
             out += lines
         else:
-            out += fill(' '.join([lines[0][len(first):]] + lines[1:]), first, rest)
+            more = [x.removeprefix('> ') for x in lines[1:]] if first == '> ' else lines[1:]
+            out += fill(' '.join([lines[0][len(first):]] + more), first, rest)
     return '\n'.join(out)
 
 
@@ -118,7 +124,8 @@ def header(text):
 
 def main():
     named = [a for a in sys.argv[1:] if not a.startswith('--')]
-    paths = named or ['README.md', *sorted(glob.glob('docs/*.md')), *sorted(glob.glob('include/*.h')), *sorted(glob.glob('crates/**/*.rt', recursive=True)), *sorted(glob.glob('crates/**/*.antt', recursive=True))]
+    every = ('README.md', 'docs/*.md', 'include/*.h', 'crates/**/*.rt', 'crates/**/*.antt')
+    paths = named or [path for kind in every for path in sorted(glob.glob(kind, recursive=True))]
     found = 0
     for path in paths:
         text = open(path, encoding='utf-8').read()
