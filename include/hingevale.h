@@ -1,7 +1,7 @@
 /* Hingevale: frame headers, geometry and tables of contents of JPEG XL frames, over numbers and lent slices.
  *
  * A slice is a pointer and a count of elements. The pointer must not be null, also where the count is 0; slices that are written must not
- * overlap any other slice of the call. The input is at most 16,777,216 bytes.
+ * overlap any other slice of the call. Input over 16,777,216 bytes is refused (2); hingevale_list alone takes input of any length.
  *
  * A function that can refuse answers a status word, HINGEVALE_NUMBER(status) + 256 * HINGEVALE_PLACE(status):
  *   0            accepted: the lent slices hold the answer; only the used places are written
@@ -59,7 +59,8 @@ uint64_t hingevale_read_frame_header(const uint8_t *s, size_t s_len, uint32_t wi
                                      size_t upsampling_len, uint32_t *blending, size_t blending_len, uint64_t *words, size_t words_len,
                                      int32_t *signs, size_t signs_len, float *floats, size_t floats_len);
 
-/* The questions on a header, over its words. They refuse nothing: a frame type over 3 is taken as 3. */
+/* The questions on a header, over its words. They answer yes or no and refuse nothing: a frame type over 3, which names none, is answered with no.
+ * Whether a filter is enabled needs no question: words 48 and 49 say so. */
 bool hingevale_is_keyframe(uint32_t frame_type, bool is_last, uint32_t duration);
 bool hingevale_can_reference(uint32_t frame_type, bool is_last, uint32_t duration, uint32_t save_as_reference);
 bool hingevale_noise(uint64_t flags);
@@ -99,7 +100,7 @@ uint64_t hingevale_is_lf_group_collides_region(HINGEVALE_FRAME, uint32_t lf_grou
  * offsets, sizes  by section number: where its data begins, counted from the start of s, and how many bytes it has
  * order           by section number: its sent number
  * inverse         by sent number: its section number
- * out             at least 3 words: how many sections, the data start, the sum of the sizes
+ * out             at least 3 words: how many sections (1: the frame has a single entry), the data start, the sum of the sizes
  * Refusals: 2, 8, 9, 10, 3, 11, then reading order (4, 12); 255 where the flag is 1. */
 uint64_t hingevale_read_toc(const uint8_t *s, size_t s_len, HINGEVALE_FRAME, uint64_t place, uint64_t *offsets, size_t offsets_len,
                             uint32_t *sizes, size_t sizes_len, uint32_t *order, size_t order_len, uint32_t *inverse, size_t inverse_len,
@@ -115,7 +116,8 @@ uint64_t hingevale_read_toc_with_order(const uint8_t *s, size_t s_len, HINGEVALE
  * LF group), which count where the kind has them. Refusals: 8, 9, 10, 3, 14 (for an unknown number too). */
 uint64_t hingevale_section_of_kind(HINGEVALE_FRAME, uint32_t kind, uint32_t pass_idx, uint32_t group_idx, uint64_t *out, size_t out_len);
 
-/* A section number to its kind, in three words: number, pass, group or LF group. Refusals: 8, 9, 10, 3, 14. */
+/* A section number to its kind, in three words: number, pass, group or LF group. A word that the kind hasn't is 0: the pass of all but GroupPass,
+ * the group of All, LfGlobal and HfGlobal. Refusals: 8, 9, 10, 3, 14. */
 uint64_t hingevale_kind_of(HINGEVALE_FRAME, uint32_t section, uint64_t *out, size_t out_len);
 
 /* A sample and a pass to the number of the section that holds them, in one word. Refusals: 8, 9, 10, 3, 14. */
@@ -135,13 +137,15 @@ uint64_t hingevale_section_at(HINGEVALE_FRAME, const uint64_t *offsets, size_t o
                               uint32_t section, uint64_t *out, size_t out_len);
 
 /* A section number to its sent number through the order, and a sent number to its section number through the inverse, in one word. The table
- * has exactly as many entries as there are sections, and is judged whole. Refusals: 8, 9, 10, 3, 13, 14. */
+ * has exactly as many entries as there are sections, and is judged whole. The sections in the order in which they are sent are those of the sent
+ * numbers 0, 1, 2, .., each with its kind by hingevale_kind_of and its place by hingevale_section_at. Refusals: 8, 9, 10, 3, 13, 14. */
 uint64_t hingevale_sent_of_section(HINGEVALE_FRAME, const uint32_t *order, size_t order_len, uint32_t section, uint64_t *out, size_t out_len);
 uint64_t hingevale_section_of_sent(HINGEVALE_FRAME, const uint32_t *inverse, size_t inverse_len, uint32_t sent, uint64_t *out, size_t out_len);
 
 /* The whole job of the program `list`: input is a facts line and a frame, text is where its output goes, and out has at least one word, which
- * becomes the output's length. What the program refuses of a frame is in the text; the status is 3 where out or text is too short (a listing of
- * 1,024 sections has less than 262,656 bytes), and then nothing is written. */
+ * becomes the output's length. The input may have any length; of the frame the first 32,768 bytes behind the facts line are used. What the program
+ * refuses of a frame is in the text; the status is 3 where out or text is too short (the output has at most 81,054 bytes), and then nothing is
+ * written. */
 uint64_t hingevale_list(const uint8_t *input, size_t input_len, uint8_t *text, size_t text_len, uint64_t *out, size_t out_len);
 
 #ifdef __cplusplus

@@ -3,8 +3,9 @@
 
 A promise is looked at as text: for the answer and for the final content of each lent `&mut` it has one equation whose right side speaks of what
 was passed alone (no answer, no final content), so that the law `once` (crates/bits/proofs/Once.antt) gives equality; or it is a record of such
-equations, for which a law named after it (`done-once` for `Done`) stands in some crate's proofs and is proved by `once`. Prints what it found, every
-function for which neither holds, and every function that docs/PROMISES.md doesn't name.
+equations, for which a law named after it (`done-once` for `Done`) stands in some crate's proofs and is proved by `once`. An equation for what an
+answer tells (`kindTold r`) counts as one for the answer where a law named after it says so (`kind-once`). Prints what it found, every function for
+which none holds, and every function that docs/PROMISES.md doesn't name.
 """
 import glob
 import os
@@ -75,6 +76,9 @@ def main():
             for c in conjuncts(promise):
                 left, _, right = (x.strip() for x in c.partition('≡'))
                 if right and not re.search(rf'\.exit|(?<![\w.«]){re.escape(bound)}(?![\w»])', right):
+                    tells = re.fullmatch(rf'(\w+)Told {re.escape(bound)}', left)
+                    if tells and re.search(rf'^pub {tells.group(1)}-once :', laws, re.M):
+                        left = bound
                     found.add(strip(left) if left != bound else left)
             record = re.match(r'([A-Z]\w*) ', promise)
             if not due:

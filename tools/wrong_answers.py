@@ -28,6 +28,8 @@ def told(old, new):
         i -= 1
     while i and not all(re.search(r'\w', ''.join(z[i:len(z) - j])) for z in (a, b)):
         i -= 1
+    while j and not all(re.search(r'\w', ''.join(z[i:len(z) - j])) for z in (a, b)):
+        j -= 1
     x, y = (''.join(z[i:len(z) - j]).strip() for z in (a, b))
     return f'`{y or "nothing"}` for `{x or "nothing"}`'.replace('|', '\\|')
 

@@ -1,5 +1,5 @@
--- The columns of a table give back what was read: along a reading, for every row that stands there, the column of the record is the number that was read. One
--- induction each for tables one after another, inside each other and repeated; the crates above have the instances.
+-- The columns of a table give back what was read: along a reading, for every row that stands there, the column of the record is the number that was
+-- read. One induction each for tables one after another, inside each other and repeated; the crates above have the instances.
 use Prim.Native.Nat.{ℕ, zero, suc, _+_, _-_, _%_, _<_}
 use native.Mathlib.Omega.{arith}
 use native.Mathlib.Nat.{add-suc, suc-add, add-zero}
@@ -81,7 +81,8 @@ times-any f g s same (suc n) i c =
     let yours = times-then n i g (one .value) (one .next) {vs = more .value} {last = more .next} (record { is = refl }) (record { is = refl }) in
     mine .is ∙ sym (yours .is)
 
--- ---- a table of rows that ends in its record: over any numbers, what the rows ask of the record. `given` is what is known of it, `due` what the rows before ask.
+-- ---- a table of rows that ends in its record: over any numbers, what the rows ask of the record. `given` is what is known of it, `due` what the
+-- rows before ask.
 
 unfoldable pub Keeps : {R : Type 0} → Table R R → (R → Type 0) → (R → Type 0) → Type 0
 Keeps (ends a) given due = given a → due a

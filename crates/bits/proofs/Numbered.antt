@@ -1,4 +1,5 @@
--- Every refusal of a reading has a number of the rules, at most 14, and a place no further than the end. One induction for all field types and all tables.
+-- Every refusal of a reading has a number of the rules, at most 14, and a place no further than the end. One induction for all field types and all
+-- tables.
 use Prim.Native.Nat.{ℕ, zero, suc, _+_, _-_, _*_, _/_, _%_, _^_, _≤_}
 use native.Mathlib.Omega.{arith}
 use mathlib.Core.List.{List}

@@ -1,5 +1,5 @@
--- What holds of every reading, for all field types and all tables at once: it never moves past the end, a fault stays, what is read depends on no other bits, and the same
--- bits at another place read the same.
+-- What holds of every reading, for all field types and all tables at once: it never moves past the end, a fault stays, what is read depends on no
+-- other bits, and the same bits at another place read the same.
 use Prim.Native.Nat.{ℕ, zero, suc, _+_, _-_, _*_, _%_, _^_, _≤_, _<_}
 use native.Mathlib.Omega.{arith}
 use native.Mathlib.Nat.{le-refl, mod-add-mod}

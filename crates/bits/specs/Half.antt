@@ -18,6 +18,6 @@ fraction h = h % 1024
 abbrev pub scaled : ℕ → ℕ
 scaled h = pick (eqb (exponent h) 0) (fraction h) ((1024 + fraction h) * 2 ^ (exponent h - 1))
 
--- The f32 at scaled / 2^24, with its sign. Nothing is rounded: `half-exact` of proofs/Half.antt says that it is that very number.
+-- The f32 at scaled / 2^24, with its sign. Nothing is rounded: `half-exact` of numbers/proofs/Half.antt says that it is that very number.
 unfoldable pub half : ℕ → Float
 half h = round binary32 (negative h) (scaled h) (2 ^ 24)

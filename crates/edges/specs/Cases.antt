@@ -179,7 +179,8 @@ pub record Edges : Type 0 where
       ++ (bytes "3\tGroupPass\t0\t0\t3\t22\t1000\t0\t0\t256\t100\n"
       ++ (bytes "4\tGroupPass\t0\t1\t4\t1022\t20\t256\t0\t44\t100\n"
       ++ bytes "total\t1033\n"))))))
-  -- P5 the second entry on those bytes at place 8 with order 2, 0, 1, 3, 4: LfGlobal 19 size 3, LfGroup 9 size 10, HfGlobal 19 size 0; inverse 1, 2, 0, 3, 4
+  -- P5 the second entry on those bytes at place 8 with order 2, 0, 1, 3, 4: LfGlobal 19 size 3, LfGroup 9 size 10, HfGlobal 19 size 0; inverse 1, 2,
+  -- 0, 3, 4
   pub P5 :
       let r : Reading = ordered (2 ∷ 0 ∷ 1 ∷ 3 ∷ 4 ∷ []) in
       let t : Tables = after r five in

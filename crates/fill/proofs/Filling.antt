@@ -1,4 +1,5 @@
--- Values put one after another: what is left to put makes of the slice as it is what all make of the slice as it was. For slices of any type, and wherever the values come from.
+-- Values put one after another: what is left to put makes of the slice as it is what all make of the slice as it was. For slices of any type, and
+-- wherever the values come from.
 use Prim.Native.Nat.{ℕ, suc, _+_, _-_, _≤_, _<_, min}
 use native.Mathlib.Omega.{arith}
 use native.Mathlib.Nat.{add-zero, add-suc}

@@ -1,5 +1,5 @@
-// Values put into lent slices, one at a place or many from a place on. A place that the slice hasn't is passed over, so each function is total, and the same
-// walk serves to judge, on a short slice, and to fill.
+// Values put into lent slices, one at a place or many from a place on. A place that the slice hasn't is passed over, so each function is total, and
+// the same walk serves to judge, on a short slice, and to fill.
 ghost use mathlib.Core.Path.{_≡_};
 ghost use Prim.Native.Nat.{min};
 ghost use lib.ListN.{set};

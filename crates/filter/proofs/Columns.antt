@@ -1,6 +1,6 @@
--- The columns of the filters' tables give back what was read: the law of bits' `Columns`, of each table and of the whole bundle. A float's column is the pattern
--- that was read. The Bool in front of values is written as 0 exactly where they are the defaults, and some bits aren't kept: where a record speaks of `Sent`, it asks
--- that these were read as they would be written.
+-- The columns of the filters' tables give back what was read: the law of bits' `Columns`, of each table and of the whole bundle. A float's column is
+-- the pattern that was read. The Bool in front of values is written as 0 exactly where they are the defaults, and some bits aren't kept: where a
+-- record speaks of `Sent`, it asks that these were read as they would be written.
 use Prim.Native.Nat.{ℕ, _+_, _*_, _<_}
 use native.Mathlib.Omega.{arith}
 use native.Mathlib.Nat.{zero-add}

@@ -62,7 +62,8 @@ scalesRead o = record { value = o .value; next = o .next }
 abbrev pub placementRead : Out Placement → PlacementRead
 placementRead o = record { value = o .value; next = o .next }
 
--- A header whose first bit says all default: every field has its default. A regular VarDCT frame of one pass, group size shift 1, as large as the image
+-- A header whose first bit says all default: every field has its default. A regular VarDCT frame of one pass, group size shift 1, as large as the
+-- image
 unfoldable pub defaultFront : Facts → Front
 defaultFront f = record {
   opening = record {

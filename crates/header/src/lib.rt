@@ -35,7 +35,8 @@ pub struct Facts {
     pub timecodes: bool,
 }
 
-// The header's record: what the Rust's struct keeps, computed fields too; the name, the extra channels' upsampling and their blending are in the lent buffers.
+// The header's record: what the Rust's struct keeps, computed fields too; the name, the extra channels' upsampling and their blending are in the lent
+// buffers.
 pub struct FrameHeader {
     pub frame_type: FrameType,
     pub encoding: Encoding,

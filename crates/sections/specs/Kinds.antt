@@ -23,7 +23,8 @@ numbersOf (LfGroup i) = record { kind = 2; «pass_idx» = 0; «group_idx» = i }
 numbersOf HfGlobal = record { kind = 3; «pass_idx» = 0; «group_idx» = 0 }
 numbersOf (GroupPass p i) = record { kind = 4; «pass_idx» = p; «group_idx» = i }
 
--- whether the frame has a section of the kind: a frame of one has All alone; another has no All, LF groups below their count, and passes and groups below theirs
+-- whether the frame has a section of the kind: a frame of one has All alone; another has no All, LF groups below their count, and passes and groups
+-- below theirs
 unfoldable pub hasKind : Grid → ℕ → KindNumbers → Bool
 hasKind g passes k =
     pick (eqb (g .sections) 1)

@@ -1,4 +1,5 @@
--- What the look-ups answer on an accepted frame and table: the section of a sample is that sample's GroupPass, and a section's place is what the table says.
+-- What the look-ups answer on an accepted frame and table: the section of a sample is that sample's GroupPass, and a section's place is what the
+-- table says.
 use Prim.Native.Nat.{ℕ, _+_, _*_, _<_}
 use native.Mathlib.Omega.{arith}
 use mathlib.Core.Path.{_≡_, refl, sym, _∙_, ap}

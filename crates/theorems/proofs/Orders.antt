@@ -1,4 +1,5 @@
--- The theorems on an order of sections: no entry twice, sums by section and as sent, sections to sent numbers and back, and the same over what looking up answers.
+-- The theorems on an order of sections: no entry twice, sums by section and as sent, sections to sent numbers and back, and the same over what
+-- looking up answers.
 use Prim.Native.Nat.{ℕ, _≤_, _<_}
 use native.Mathlib.Omega.{arith}
 use mathlib.Core.Path.{_≡_, sym, _∙_, ap}

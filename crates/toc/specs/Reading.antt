@@ -55,8 +55,8 @@ unfoldable pub judgedOrder : List ℕ → Grid → ℕ → List ℕ → Tables �
 judgedOrder s g place lent t =
     pick (eqb (judged s g place t .number) 0) (checked (g .sections) lent) (judged s g place t)
 
--- What an answer says, by number and values: 0 and a table; 255 and the place after the flag ("order needed", which has no number in the rules); else the
--- number of a refusal, and the refusal.
+-- What an answer says, by number and values: 0 and a table; 255 and the place after the flag ("order needed", which has no number in the rules); else
+-- the number of a refusal, and the refusal.
 pub record TocNumbers : Type 0 where
   pub number : ℕ
   pub toc : Toc

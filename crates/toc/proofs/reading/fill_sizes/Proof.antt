@@ -1,4 +1,5 @@
--- `fill_sizes`: after k turns the first k sizes stand at their sections, each with the sum of those before it as its offset; two at once are two turns.
+-- `fill_sizes`: after k turns the first k sizes stand at their sections, each with the sum of those before it as its offset; two at once are two
+-- turns.
 use native.Mathlib.Omega.{arith}
 use Prim.Native.Nat.{_+_, _-_, _≤_}
 use borrow.Author.Tests.{leb-true}
