@@ -146,16 +146,55 @@ every-number = record {
   section-of-sent = (((bad, []), refl), (((empty, []), refl), (((wide, []), refl), (((one, []), refl), (((one, 0 ∷ []), refl), tt)))));
   layout-of = ((bad, refl), ((empty, refl), ((wide, refl), tt)));
   section-in = ((nowhere, refl), tt);
-  read-toc =
-      (((long, one, 0, []), first-long long [] too-long), ((([], bad, 0, []), refl), ((([], empty, 0, []), refl), ((([], wide, 0, []), refl), ((([], one, 0, []), refl),
-      ((([], one, 1, three), refl), ((([], one, 0, three), refl), (((2 ∷ [], one, 0, three), refl), tt))))))));
-  read-toc-with-order =
-      (((long, one, 0, [], []), second-long long [] too-long), ((([], bad, 0, [], []), refl), ((([], empty, 0, [], []), refl), ((([], wide, 0, [], []), refl), ((([], one, 0, [], []), refl),
-      ((([], one, 1, three, []), refl), ((([], one, 0, three, []), refl), ((([], one, 0, three, 0 ∷ []), refl), (((2 ∷ [], one, 1, three, 0 ∷ []), refl), tt)))))))));
+  read-toc = (
+    ((long, one, 0, []), first-long long [] too-long),
+    (
+      (([], bad, 0, []), refl),
+      (
+        (([], empty, 0, []), refl),
+        (
+          (([], wide, 0, []), refl),
+          (
+            (([], one, 0, []), refl),
+            ((([], one, 1, three), refl), ((([], one, 0, three), refl), (((2 ∷ [], one, 0, three), refl), tt))),
+          ),
+        ),
+      ),
+    ),
+  );
+  read-toc-with-order = (
+    ((long, one, 0, [], []), second-long long [] too-long),
+    (
+      (([], bad, 0, [], []), refl),
+      (
+        (([], empty, 0, [], []), refl),
+        (
+          (([], wide, 0, [], []), refl),
+          (
+            (([], one, 0, [], []), refl),
+            ((([], one, 1, three, []), refl), ((([], one, 0, three, []), refl), ((([], one, 0, three, 0 ∷ []), refl), (((2 ∷ [], one, 1, three, 0 ∷ []), refl), tt)))),
+          ),
+        ),
+      ),
+    ),
+  );
   judge-header = (((16777217, facts, 1071), refl), (((0, badFacts, 1071), refl), (((0, facts, 0), refl), tt)));
-  read-frame-header =
-      (((long, facts, 1071), header-long long too-long), ((([], badFacts, 1071), refl), ((([], facts, 0), refl), ((([], facts, 1071), refl), (((mode5, facts, 1071), refl),
-      (((weight31, facts, 1071), refl), (((quarter, facts, 1071), refl), tt)))))));
+  read-frame-header = (
+    ((long, facts, 1071), header-long long too-long),
+    (
+      (([], badFacts, 1071), refl),
+      (
+        (([], facts, 0), refl),
+        (
+          (([], facts, 1071), refl),
+          (
+            ((mode5, facts, 1071), refl),
+            (((weight31, facts, 1071), refl), (((quarter, facts, 1071), refl), tt)),
+          ),
+        ),
+      ),
+    ),
+  );
   write-refused = (([], refl), tt);
   write-order-needed = (([], refl), tt);
   list-frame = (((three, []), refl), tt);
@@ -191,13 +230,52 @@ every-number = record {
   hingevale-sent-of-section = (((bad, [], []), refl), (((empty, [], []), refl), (((wide, [], []), refl), (((one, [], []), refl), (((one, [], eight), refl), (((one, 0 ∷ [], eight), refl), tt))))));
   hingevale-section-of-sent = (((bad, [], []), refl), (((empty, [], []), refl), (((wide, [], []), refl), (((one, [], []), refl), (((one, [], eight), refl), (((one, 0 ∷ [], eight), refl), tt))))));
   hingevale-section-in = ((([], []), refl), (((eight, eight), refl), tt));
-  hingevale-read-toc =
-      (((long, one, 0, three), first-long long three too-long), ((([], bad, 0, []), refl), ((([], empty, 0, []), refl), ((([], wide, 0, []), refl), ((([], one, 0, []), refl),
-      ((([], one, 1, three), refl), ((([], one, 0, three), refl), (((2 ∷ [], one, 0, three), refl), tt))))))));
-  hingevale-read-toc-with-order =
-      (((long, one, 0, three, []), second-long long three too-long), ((([], bad, 0, [], []), refl), ((([], empty, 0, [], []), refl), ((([], wide, 0, [], []), refl), ((([], one, 0, [], []), refl),
-      ((([], one, 1, three, []), refl), ((([], one, 0, three, []), refl), ((([], one, 0, three, 0 ∷ []), refl), (((2 ∷ [], one, 1, three, 0 ∷ []), refl), tt)))))))));
-  hingevale-read-frame-header =
-      (((long, facts, lent), head-long long too-long), ((([], badFacts, lent), refl), ((([], facts, buffers [] [] [] [] [] []), refl), ((([], facts, lent), refl), (((mode5, facts, lent), refl),
-      (((weight31, facts, lent), refl), (((quarter, facts, lent), refl), tt)))))));
+  hingevale-read-toc = (
+    ((long, one, 0, three), first-long long three too-long),
+    (
+      (([], bad, 0, []), refl),
+      (
+        (([], empty, 0, []), refl),
+        (
+          (([], wide, 0, []), refl),
+          (
+            (([], one, 0, []), refl),
+            ((([], one, 1, three), refl), ((([], one, 0, three), refl), (((2 ∷ [], one, 0, three), refl), tt))),
+          ),
+        ),
+      ),
+    ),
+  );
+  hingevale-read-toc-with-order = (
+    ((long, one, 0, three, []), second-long long three too-long),
+    (
+      (([], bad, 0, [], []), refl),
+      (
+        (([], empty, 0, [], []), refl),
+        (
+          (([], wide, 0, [], []), refl),
+          (
+            (([], one, 0, [], []), refl),
+            ((([], one, 1, three, []), refl), ((([], one, 0, three, []), refl), ((([], one, 0, three, 0 ∷ []), refl), (((2 ∷ [], one, 1, three, 0 ∷ []), refl), tt)))),
+          ),
+        ),
+      ),
+    ),
+  );
+  hingevale-read-frame-header = (
+    ((long, facts, lent), head-long long too-long),
+    (
+      (([], badFacts, lent), refl),
+      (
+        (([], facts, buffers [] [] [] [] [] []), refl),
+        (
+          (([], facts, lent), refl),
+          (
+            ((mode5, facts, lent), refl),
+            (((weight31, facts, lent), refl), (((quarter, facts, lent), refl), tt)),
+          ),
+        ),
+      ),
+    ),
+  );
 }

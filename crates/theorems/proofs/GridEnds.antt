@@ -46,7 +46,8 @@ unfolding gridOf laid
 refused f h = ways-out (goodRecord f) (zeroSize f) (tooMany f) (laid f) refl h
 
 -- a part of the grid that is zero beside a refusal
-part : {A : Type 0} (f : Frame) (of : Grid → A) (zero : A) → ((n : ℕ) → of (refusedGrid n) ≡ zero) → Ends ofFrame 0 (gridOf f .refusal) zero (of (gridOf f))
+part : {A : Type 0} (f : Frame) (of : Grid → A) (zero : A) → ((n : ℕ) → of (refusedGrid n) ≡ zero)
+    → Ends ofFrame 0 (gridOf f .refusal) zero (of (gridOf f))
 part f of zero h = record { refuses = grid-refuses f; either = λ some. ap of (refused f some) ∙ h (gridOf f .refusal .number) }
 
 pub measure : (f : Frame) → GridEnds ofFrame (gridOf f)

@@ -1,4 +1,5 @@
--- The header: 2, 1, 3, then 4, 5, 6 and 7 in reading order, at a place within the input; beside a refusal the zero record, and the lent buffers as they were.
+-- The header: 2, 1, 3, then 4, 5, 6 and 7 in reading order, at a place within the input; beside a refusal the zero record, and the lent buffers as
+-- they were.
 use Prim.Native.Nat.{ℕ}
 use native.Mathlib.Omega.{arith}
 use mathlib.Core.Path.{_≡_, refl, sym, _∙_, ap}
@@ -48,7 +49,8 @@ unfolding opening Own
 own-opening f =
     (refl, λ all. (refl, λ kind. (refl, λ encoding. (refl, λ flags. (refl, λ ycbcr. (refl, λ j0. (refl, λ j1. (refl, λ j2. (refl, λ up. tt)))))))))
 
-own-array : {R : Type 0} (k : Codec) (limit count d : ℕ) (col : R → ℕ → ℕ) → holds ofHeader (ownOf k) ≡ true → Own ofHeader (array k limit count d col)
+own-array : {R : Type 0} (k : Codec) (limit count d : ℕ) (col : R → ℕ → ℕ) → holds ofHeader (ownOf k) ≡ true
+    → Own ofHeader (array k limit count d col)
 unfolding element Own
 own-array k limit count d col h = own-times ofHeader count 0 (element k limit d col) (λ i. (h, λ v. tt))
 
@@ -58,11 +60,16 @@ own-scales f o = (refl, λ shift. (refl, λ x. (refl, λ b. tt)))
 
 own-passes : (on : Bool) → Own ofHeader (passes on)
 unfolding passes Own
-own-passes on =
-    (refl, λ n. (refl, λ ds.
-    own-bind ofHeader _ _ (own-array _ _ 10 0 _ refl) (λ shift.
-    own-bind ofHeader _ _ (own-array _ _ 4 0 _ refl) (λ downsample.
-    own-bind ofHeader _ _ (own-array _ _ 4 0 _ refl) (λ last. tt)))))
+own-passes on = (
+  refl,
+  λ n. (
+    refl,
+    λ ds.
+        own-bind ofHeader _ _ (own-array _ _ 10 0 _ refl) (λ shift.
+        own-bind ofHeader _ _ (own-array _ _ 4 0 _ refl) (λ downsample.
+        own-bind ofHeader _ _ (own-array _ _ 4 0 _ refl) (λ last. tt))),
+  ),
+)
 
 own-placement : (f : Facts) (o : Opening) → Own ofHeader (placement f o)
 unfolding placement Own

@@ -22,7 +22,8 @@ use Rattle.theorems.proofs.Refusing.{refuses-none, refuses-with, refuse
 use Rattle.theorems.proofs.GridEnds.{grid-refuses}
 use Rattle.theorems.proofs.SectionEnds.{check-order}
 
-texted : (l : List ℕ) (r : Refusal) (text before : List ℕ) (a : TextAnswer) (after : List ℕ) → Refuses l 0 r → Texted r text before a after → TextEnds l a before after
+texted : (l : List ℕ) (r : Refusal) (text before : List ℕ) (a : TextAnswer) (after : List ℕ) → Refuses l 0 r → Texted r text before a after
+    → TextEnds l a before after
 unfolding answerBy
 texted l r text before a after d h =
     let is : a .refusal ≡ r = ap (λ (x : TextAnswer). x .refusal) (h .answer) in
@@ -40,14 +41,17 @@ pub fits : (text out : List ℕ) → Refuses ofText 0 (fitted text out)
 fits text out = refuses-pick ofText 0 (leb (length text) (length out)) none (refusal 3 0) (refuses-none ofText 0 refl) (refuses-with ofText 0 3 0 refl refl (omega arith))
 
 -- `list_frame` and every other function that writes a text: whatever the text is
-pub list-frame : (text before : List ℕ) (a : TextAnswer) (after : List ℕ) → Texted (fitted text before) text before a after → TextEnds ofText a before after
+pub list-frame : (text before : List ℕ) (a : TextAnswer) (after : List ℕ) → Texted (fitted text before) text before a after
+    → TextEnds ofText a before after
 list-frame text before a after h = texted ofText (fitted text before) text before a after (fits text before) h
 
-pub write-refused : (r : Refusal) (before : List ℕ) (a : TextAnswer) (after : List ℕ) → Texted (fitted (refusedText r) before) (refusedText r) before a after
+pub write-refused : (r : Refusal) (before : List ℕ) (a : TextAnswer) (after : List ℕ)
+    → Texted (fitted (refusedText r) before) (refusedText r) before a after
     → TextEnds ofText a before after
 write-refused r before a after h = list-frame (refusedText r) before a after h
 
-pub write-order-needed : (place : ℕ) (before : List ℕ) (a : TextAnswer) (after : List ℕ) → Texted (fitted (orderText place) before) (orderText place) before a after
+pub write-order-needed : (place : ℕ) (before : List ℕ) (a : TextAnswer) (after : List ℕ)
+    → Texted (fitted (orderText place) before) (orderText place) before a after
     → TextEnds ofText a before after
 write-order-needed place before a after h = list-frame (orderText place) before a after h
 

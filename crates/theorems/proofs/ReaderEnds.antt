@@ -61,7 +61,8 @@ zero-pad-within s c i =
     (inr (padded s (c .at) i)) (inl refl)
 
 -- the caller's number
-pub refuse-if : (l : List ℕ) → rules l ≡ true → (s : List ℕ) (c : Cursor) (bad : Bool) (number back : ℕ) → among l number ≡ true → Hands l s c (failed bad number back c)
+pub refuse-if : (l : List ℕ) → rules l ≡ true → (s : List ℕ) (c : Cursor) (bad : Bool) (number back : ℕ) → among l number ≡ true
+    → Hands l s c (failed bad number back c)
 unfolding read Own
 refuse-if l ok s c bad number back h = read-hands l ok {R = ℕ} {A = ℕ} s (fails bad number back (ends 0)) (h, tt) c
 
@@ -101,11 +102,16 @@ own-channel on i = (refl, λ a. (refl, λ b. (refl, tt)))
 
 own-gabor : (on : Bool) → Own ofFilter (gabor on)
 unfolding gabor Own
-own-gabor on =
-    (refl, λ enabled. (refl, λ own.
-    own-bind ofFilter _ _ (own-channel _ 0) (λ x.
-    own-bind ofFilter _ _ (own-channel _ 1) (λ y.
-    own-bind ofFilter _ _ (own-channel _ 2) (λ z. tt)))))
+own-gabor on = (
+  refl,
+  λ enabled. (
+    refl,
+    λ own.
+        own-bind ofFilter _ _ (own-channel _ 0) (λ x.
+        own-bind ofFilter _ _ (own-channel _ 1) (λ y.
+        own-bind ofFilter _ _ (own-channel _ 2) (λ z. tt))),
+  ),
+)
 
 own-float : {R : Type 0} (on : Bool) (d : ℕ) (column : R → ℕ) → Own ofHalf (float on d column)
 unfolding float Own
@@ -125,32 +131,38 @@ own-scale on = (refl, λ own. own-bind ofHalf _ _ (own-floats _ 3 _) (λ values.
 
 own-sigma : (on modular : Bool) → Own ofHalf (sigma on modular)
 unfolding sigma Own
-own-sigma on modular =
-    (refl, λ own.
-    own-bind ofHalf _ _ (own-float _ 0 _) (λ q.
-    own-bind ofHalf _ _ (own-float _ 0 _) (λ a.
-    own-bind ofHalf _ _ (own-float _ 0 _) (λ b.
-    own-bind ofHalf _ _ (own-float _ 0 _) (λ d. tt)))))
+own-sigma on modular = (
+  refl,
+  λ own.
+      own-bind ofHalf _ _ (own-float _ 0 _) (λ q.
+      own-bind ofHalf _ _ (own-float _ 0 _) (λ a.
+      own-bind ofHalf _ _ (own-float _ 0 _) (λ b.
+      own-bind ofHalf _ _ (own-float _ 0 _) (λ d. tt)))),
+)
 
 own-epf : (on modular : Bool) → Own ofHalf (epf on modular)
 unfolding epf Own
-own-epf on modular =
-    (refl, λ iters.
-    own-inside ofHalf _ _ _ (own-sharp _) (λ lut.
-    own-inside ofHalf _ _ _ (own-scale _) (λ scales.
-    own-inside ofHalf _ _ _ (own-sigma _ modular) (λ four.
-    own-bind ofHalf _ _ (own-float _ 15360 _) (λ m. tt)))))
+own-epf on modular = (
+  refl,
+  λ iters.
+      own-inside ofHalf _ _ _ (own-sharp _) (λ lut.
+      own-inside ofHalf _ _ _ (own-scale _) (λ scales.
+      own-inside ofHalf _ _ _ (own-sigma _ modular) (λ four.
+      own-bind ofHalf _ _ (own-float _ 15360 _) (λ m. tt)))),
+)
 
 own-edges : (on modular : Bool) → Own ofFilter (epf on modular)
 own-edges on modular = own-more ofFilter ofHalf refl (epf on modular) (own-epf on modular)
 
 pub own-restoration : (on modular : Bool) → Own ofFilter (restoration on modular)
 unfolding restoration Own
-own-restoration on modular =
-    (refl, λ all.
-    own-inside ofFilter _ _ _ (own-gabor _) (λ gab.
-    own-inside ofFilter _ _ _ (own-edges _ modular) (λ edges.
-    own-inside ofFilter _ _ _ (own-extensions ofFilter refl _) (λ skipped. tt))))
+own-restoration on modular = (
+  refl,
+  λ all.
+      own-inside ofFilter _ _ _ (own-gabor _) (λ gab.
+      own-inside ofFilter _ _ _ (own-edges _ modular) (λ edges.
+      own-inside ofFilter _ _ _ (own-extensions ofFilter refl _) (λ skipped. tt))),
+)
 
 pub read-gabor-if : (s : List ℕ) (c : Cursor) (on : Bool) → Hands ofFilter s c (gaborRead (read (gabor on) s c) .next)
 read-gabor-if s c on = read-hands ofFilter refl s (gabor on) (own-gabor on) c
@@ -158,5 +170,6 @@ read-gabor-if s c on = read-hands ofFilter refl s (gabor on) (own-gabor on) c
 pub read-epf-if : (s : List ℕ) (c : Cursor) (on modular : Bool) → Hands ofHalf s c (epfRead (read (epf on modular) s c) .next)
 read-epf-if s c on modular = read-hands ofHalf refl s (epf on modular) (own-epf on modular) c
 
-pub read-restoration-filter-if : (s : List ℕ) (c : Cursor) (on modular : Bool) → Hands ofFilter s c (filterRead (read (restoration on modular) s c) .next)
+pub read-restoration-filter-if : (s : List ℕ) (c : Cursor) (on modular : Bool)
+    → Hands ofFilter s c (filterRead (read (restoration on modular) s c) .next)
 read-restoration-filter-if s c on modular = read-hands ofFilter refl s (restoration on modular) (own-restoration on modular) c

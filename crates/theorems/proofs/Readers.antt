@@ -1,4 +1,5 @@
--- Readers: the cursor that a field or a table hands on has the fault before, or one of the numbers of its field types and tests, at a place within the input.
+-- Readers: the cursor that a field or a table hands on has the fault before, or one of the numbers of its field types and tests, at a place within
+-- the input.
 -- One induction for all field types and all tables.
 use Prim.Native.Nat.{ℕ, zero, suc, _+_, _-_, _*_, _/_, _%_, _^_, _≤_}
 use native.Mathlib.Omega.{arith}
@@ -65,11 +66,13 @@ module _ (l : List ℕ) (ok : rules l ≡ true) where
       let five : among l 5 ≡ true = and-parts _ _ (four .1) .0 in
       (four .0, λ k. (four .0, λ x. of-both Low (leb n ((chosen d k .base + x) % 2 ^ 32)) (refuses 5) (gives ((chosen d k .base + x) % 2 ^ 32)) five tt))
   low u64 p h =
-      let four : among l 4 ≡ true = and-parts _ _ h .0 in
-      (four, λ k.
-      of-both Low (eqb k 0) (gives 0) (pick (eqb k 1) (takes 4 λ x. gives (1 + x)) (pick (eqb k 2) (takes 8 λ x. gives (17 + x)) (takes 12 λ x. more 6 x))) tt
-      (of-both Low (eqb k 1) (takes 4 λ x. gives (1 + x)) (pick (eqb k 2) (takes 8 λ x. gives (17 + x)) (takes 12 λ x. more 6 x)) (four, λ x. tt)
-      (of-both Low (eqb k 2) (takes 8 λ x. gives (17 + x)) (takes 12 λ x. more 6 x) (four, λ x. tt) (four, λ x. low-more four 6 x))))
+      let four : among l 4 ≡ true = and-parts _ _ h .0 in (
+        four,
+        λ k.
+            of-both Low (eqb k 0) (gives 0) (pick (eqb k 1) (takes 4 λ x. gives (1 + x)) (pick (eqb k 2) (takes 8 λ x. gives (17 + x)) (takes 12 λ x. more 6 x))) tt
+            (of-both Low (eqb k 1) (takes 4 λ x. gives (1 + x)) (pick (eqb k 2) (takes 8 λ x. gives (17 + x)) (takes 12 λ x. more 6 x)) (four, λ x. tt)
+            (of-both Low (eqb k 2) (takes 8 λ x. gives (17 + x)) (takes 12 λ x. more 6 x) (four, λ x. tt) (four, λ x. low-more four 6 x))),
+      )
   low f16 p h =
       let four = and-parts _ _ h in
       let six : among l 6 ≡ true = and-parts _ _ (four .1) .0 in
@@ -116,7 +119,8 @@ module _ (l : List ℕ) (ok : rules l ≡ true) where
     kept-on a b c (inl e) (inr r) = inr r
     kept-on a b c (inr q) (inr r) = inr r
 
-    field-kept : (on : Bool) (k : Codec) (d : ℕ) (c : Cursor) → holds l (ownOf k) ≡ true → c .at ≤ last → Kept (c .fault) (field s on k d c .next .fault)
+    field-kept : (on : Bool) (k : Codec) (d : ℕ) (c : Cursor) → holds l (ownOf k) ≡ true → c .at ≤ last
+        → Kept (c .fault) (field s on k d c .next .fault)
     unfolding field
     field-kept on k d c h i =
         of-both (λ (r : Field). Kept (c .fault) (r .next .fault)) (on && clear c) (run (steps k (c .at)) s (c .at) (c .at)) (record { value = d; next = c })
@@ -127,13 +131,15 @@ module _ (l : List ℕ) (ok : rules l ≡ true) where
     field-at on k d c i =
         of-both (λ (r : Field). r .next .at ≤ last) (on && clear c) (run (steps k (c .at)) s (c .at) (c .at)) (record { value = d; next = c }) (run-at (steps k (c .at)) (c .at) (c .at) i i) i
 
-    failed-kept : (bad : Bool) (number back : ℕ) (c : Cursor) → among l number ≡ true → c .at ≤ last → Kept (c .fault) (failed bad number back c .fault)
+    failed-kept : (bad : Bool) (number back : ℕ) (c : Cursor) → among l number ≡ true → c .at ≤ last
+        → Kept (c .fault) (failed bad number back c .fault)
     unfolding failed
     failed-kept bad number back c h i =
         of-both (λ (r : Cursor). Kept (c .fault) (r .fault)) (bad && clear c) (record { at = c .at; fault = refusal number (c .at - back) }) c
         (inr (refuses-with l last number (c .at - back) ok h (omega (arith, i)))) (inl refl)
 
-    read-kept : {R A : Type 0} (t : Table R A) → Own l t → (c : Cursor) → c .at ≤ last → Kept (c .fault) (read t s c .next .fault) × (read t s c .next .at ≤ last)
+    read-kept : {R A : Type 0} (t : Table R A) → Own l t → (c : Cursor) → c .at ≤ last
+        → Kept (c .fault) (read t s c .next .fault) × (read t s c .next .at ≤ last)
     unfolding read Own
     read-kept (ends a) h c i = (inl refl, i)
     read-kept (row on k d v rest) h c i =
@@ -155,7 +161,8 @@ module _ (l : List ℕ) (ok : rules l ≡ true) where
   field-hands s on k d c h = read-hands {R = ℕ} s (row on k d (λ r. r) (λ n. ends n)) (h, λ n. tt) c
 
   -- from a place within the input, where nothing was refused yet
-  pub read-refuses : {R A : Type 0} (s : List ℕ) (t : Table R A) → Own l t → (p : ℕ) → p ≤ bitCount s → Refuses l (bitCount s) (read t s (start p) .next .fault)
+  pub read-refuses : {R A : Type 0} (s : List ℕ) (t : Table R A) → Own l t → (p : ℕ) → p ≤ bitCount s
+      → Refuses l (bitCount s) (read t s (start p) .next .fault)
   read-refuses s t h p i = ⊎-elim (λ e. rw e (refuses-none l (bitCount s) ok)) (λ r. r) (read-kept s (bitCount s) (le-refl (bitCount s)) t h (start p) i .0)
 
 -- tables one after another, inside each other, and repeated
@@ -171,7 +178,8 @@ own-within l g (ends a) n = tt
 own-within l g (row on k d v rest) n = (n .0, λ x. own-within l g (rest x) (n .1 x))
 own-within l g (fails bad number back rest) n = (n .0, own-within l g rest (n .1))
 
-pub own-inside : {R S A B : Type 0} (l : List ℕ) (g : R → S) (t : Table S A) (f : A → Table R B) → Own l t → ((a : A) → Own l (f a)) → Own l (bind (within g t) f)
+pub own-inside : {R S A B : Type 0} (l : List ℕ) (g : R → S) (t : Table S A) (f : A → Table R B) → Own l t → ((a : A) → Own l (f a))
+    → Own l (bind (within g t) f)
 own-inside l g t f n h = own-bind l (within g t) f (own-within l g t n) h
 
 pub own-pick : {R A : Type 0} (l : List ℕ) (b : Bool) (x y : Table R A) → Own l x → Own l y → Own l (pick b x y)

@@ -44,17 +44,20 @@ or-right : (a b : Bool) → b ≡ true → (a || b) ≡ true
 or-right true b e = refl
 or-right false b e = e
 
-pub refuses-with : (numbers : List ℕ) (last n place : ℕ) → rules numbers ≡ true → among numbers n ≡ true → place ≤ last → Refuses numbers last (refusal n place)
+pub refuses-with : (numbers : List ℕ) (last n place : ℕ) → rules numbers ≡ true → among numbers n ≡ true → place ≤ last
+    → Refuses numbers last (refusal n place)
 refuses-with numbers last n place ok h l =
     let low = ruled numbers n ok h in
     record { ruled = ok; listed = or-right (eqb 0 n) (among numbers n) h; inside = l; nothing = λ z. absurd (omega (arith, low .0, z)) }
 
 -- The law: one of two judgments by a test
-pub refuses-pick : (numbers : List ℕ) (last : ℕ) (b : Bool) (x y : Refusal) → Refuses numbers last x → Refuses numbers last y → Refuses numbers last (pick b x y)
+pub refuses-pick : (numbers : List ℕ) (last : ℕ) (b : Bool) (x y : Refusal) → Refuses numbers last x → Refuses numbers last y
+    → Refuses numbers last (pick b x y)
 refuses-pick numbers last b x y h k = of-both (Refuses numbers last) b x y h k
 
 -- and a list that holds more
-pub refuses-more : (l more : List ℕ) (last end : ℕ) (r : Refusal) → rules l ≡ true → holds l more ≡ true → last ≤ end → Refuses more last r → Refuses l end r
+pub refuses-more : (l more : List ℕ) (last end : ℕ) (r : Refusal) → rules l ≡ true → holds l more ≡ true → last ≤ end → Refuses more last r
+    → Refuses l end r
 refuses-more l more last end r ok h k d =
     record {
       ruled = ok;

@@ -1,4 +1,5 @@
--- The section entries: a table, "order needed" where no order is lent, or a refusal with a number of theirs at a place within the input; only a table is written.
+-- The section entries: a table, "order needed" where no order is lent, or a refusal with a number of theirs at a place within the input; only a
+-- table is written.
 use Prim.Native.Nat.{ℕ, _*_, _≤_, _<_}
 use native.Mathlib.Omega.{arith}
 use mathlib.Core.Path.{_≡_, refl, sym, _∙_, ap}
@@ -37,7 +38,8 @@ Said l needs last (OrderNeeded place) = (needs ≡ true) × (place ≤ last)
 Said l needs last (Refused r) = Refuses l last r
 
 -- with what is known to be told: a table has a section, a refusal a number
-tells : (l : List ℕ) (needs : Bool) (last : ℕ) (a : TocRead) (sizes order : List ℕ) (t : Tables) → Telling a → Said l needs last a → Tells l needs last t (written a sizes order t) a
+tells : (l : List ℕ) (needs : Bool) (last : ℕ) (a : TocRead) (sizes order : List ℕ) (t : Tables) → Telling a → Said l needs last a
+    → Tells l needs last t (written a sizes order t) a
 unfolding written
 tells l needs last (Table toc) sizes order t k h = k
 tells l needs last (OrderNeeded place) sizes order t k h = (h .0, h .1, refl)
@@ -68,7 +70,8 @@ judged-refuses s f place room =
     (refuses-with unread 0 3 0 refl refl (omega arith)))
     (refuses-more unread ofFrame 0 0 (gridOf f .refusal) refl refl (omega arith) (grid-refuses f)))
 
-order-refuses : (s : List ℕ) (f : Frame) (place : ℕ) (lent : List ℕ) (t : Tables) → Refuses ofTocOrder (bitCount s) (judgedOrder s (gridOf f) place lent t)
+order-refuses : (s : List ℕ) (f : Frame) (place : ℕ) (lent : List ℕ) (t : Tables)
+    → Refuses ofTocOrder (bitCount s) (judgedOrder s (gridOf f) place lent t)
 unfolding judgedOrder
 order-refuses s f place lent t =
     let first : Refusal = judged s (gridOf f) place t in
@@ -86,7 +89,8 @@ own-toc : (count : ℕ) → Own ofToc (tocRows count)
 unfolding tocRows Own
 own-toc count = (refl, λ flag. own-pick ofToc (eqb flag 0) _ _ (own-inside ofToc _ _ _ (own-sizes ofToc refl refl count) (λ sizes. tt)) tt)
 
-sized-said : (l : List ℕ) (needs : Bool) (last count : ℕ) (sizes : List ℕ) (c : Cursor) → Refuses l last (c .fault) → Said l needs last (sizedAnswer count sizes c)
+sized-said : (l : List ℕ) (needs : Bool) (last count : ℕ) (sizes : List ℕ) (c : Cursor) → Refuses l last (c .fault)
+    → Said l needs last (sizedAnswer count sizes c)
 unfolding sizedAnswer
 sized-said l needs last count sizes c h = of-both (Said l needs last) (clear c) (Table (tocOf count sizes c)) (Refused (c .fault)) tt h
 
@@ -115,11 +119,13 @@ order-last : (b : Bool) (first last : Refusal) → eqb (first .number) 0 ≡ b �
 order-last true first last e z = eqb-true (first .number) 0 e
 order-last false first last e z = z
 
-judged-first : (s : List ℕ) (f : Frame) (place : ℕ) (lent : List ℕ) (t : Tables) → judgedOrder s (gridOf f) place lent t .number ≡ 0 → judged s (gridOf f) place t .number ≡ 0
+judged-first : (s : List ℕ) (f : Frame) (place : ℕ) (lent : List ℕ) (t : Tables) → judgedOrder s (gridOf f) place lent t .number ≡ 0
+    → judged s (gridOf f) place t .number ≡ 0
 unfolding judgedOrder
 judged-first s f place lent t z = order-last _ (judged s (gridOf f) place t) (checked (gridOf f .sections) lent) refl z
 
-second-said : (s : List ℕ) (f : Frame) (place : ℕ) (lent : List ℕ) (t : Tables) → Said ofTocOrder false (bitCount s) (secondReading s f place lent t .answer)
+second-said : (s : List ℕ) (f : Frame) (place : ℕ) (lent : List ℕ) (t : Tables)
+    → Said ofTocOrder false (bitCount s) (secondReading s f place lent t .answer)
 unfolding secondReading secondRead refusedRead
 second-said s f place lent t =
     let count : ℕ = gridOf f .sections in
@@ -133,7 +139,8 @@ second-said s f place lent t =
 
 -- ---- the two entries, with what their definitions say for the C functions
 
-pub first-tells : (s : List ℕ) (f : Frame) (place : ℕ) (t : Tables) → Tells ofToc true (bitCount s) t (after (firstReading s f place t) t) (firstReading s f place t .answer)
+pub first-tells : (s : List ℕ) (f : Frame) (place : ℕ) (t : Tables)
+    → Tells ofToc true (bitCount s) t (after (firstReading s f place t) t) (firstReading s f place t .answer)
 first-tells s f place t = tells ofToc true (bitCount s) (firstReading s f place t .answer) _ _ t (first-telling s f place t) (first-said s f place t)
 
 pub second-tells : (s : List ℕ) (f : Frame) (place : ℕ) (lent : List ℕ) (t : Tables)

@@ -1,4 +1,5 @@
--- The C functions: the status word holds the refusal whole, 3 among its numbers where a lent slice is too short, and a refusal leaves the lent slices as they were.
+-- The C functions: the status word holds the refusal whole, 3 among its numbers where a lent slice is too short, and a refusal leaves the lent
+-- slices as they were.
 use Prim.Native.Nat.{ℕ, _+_, _*_, _/_, _%_, _^_, _≤_, _<_}
 use native.Mathlib.Nat.{mod-eq-of-lt}
 use native.Mathlib.Omega.{arith}
@@ -66,20 +67,23 @@ status-held l last r big d =
     rw (small, near, parts .0, parts .1)
 
 -- what a word says of a refusal, with what is lent
-worded : {A : Type 0} (l : List ℕ) (last : ℕ) (r : Refusal) (word : ℕ) (before after : A) → last < 2 ^ 56 → word ≡ statusOf r → Ends l last r before after → WordEnds l last word before after
+worded : {A : Type 0} (l : List ℕ) (last : ℕ) (r : Refusal) (word : ℕ) (before after : A) → last < 2 ^ 56 → word ≡ statusOf r
+    → Ends l last r before after → WordEnds l last word before after
 worded l last r word before after big e d =
     let is : held word ≡ r = ap held e ∙ status-held l last r big (d .refuses) in
     rw is d
 
 -- ---- records as words
 
-room : (l more : List ℕ) (r : Refusal) (short : Bool) → rules l ≡ true → holds l more ≡ true → among l 3 ≡ true → Refuses more 0 r → Refuses l 0 (roomed r short)
+room : (l more : List ℕ) (r : Refusal) (short : Bool) → rules l ≡ true → holds l more ≡ true → among l 3 ≡ true → Refuses more 0 r
+    → Refuses l 0 (roomed r short)
 room l more r short ok h three d =
     refuses-pick l 0 (short && not (isEarly (r .number))) (refusal 3 0) r (refuses-with l 0 3 0 ok three (omega arith)) (refuses-more l more 0 0 r ok h (omega arith) d)
 
 -- every function that hands out a record
 pub given : (l more : List ℕ) (a : Answer) (before : List ℕ) (word : ℕ) (after : List ℕ)
-    → rules l ≡ true → holds l more ≡ true → among l 3 ≡ true → Refuses more 0 (a .refusal) → Given a before word after → WordEnds l 0 word before after
+    → rules l ≡ true → holds l more ≡ true → among l 3 ≡ true → Refuses more 0 (a .refusal) → Given a before word after
+    → WordEnds l 0 word before after
 given l more a before word after ok h three d g =
     let r : Refusal = refusalFor a before in
     worded l 0 r word before after (omega arith) (g .status)
@@ -128,47 +132,59 @@ module _ (f : Frame) (before : List ℕ) (word : ℕ) (after : List ℕ) where
   pub hingevale-sample-width : (by : ℕ) → Given (numberAnswer (sampled f (f .width) by)) before word after → WordEnds ofFrameRoom 0 word before after
   hingevale-sample-width by g = given ofFrameRoom ofFrame _ before word after refl refl refl (grid.sample-width f by .refuses) g
 
-  pub hingevale-sample-height : (by : ℕ) → Given (numberAnswer (sampled f (f .height) by)) before word after → WordEnds ofFrameRoom 0 word before after
+  pub hingevale-sample-height : (by : ℕ) → Given (numberAnswer (sampled f (f .height) by)) before word after
+      → WordEnds ofFrameRoom 0 word before after
   hingevale-sample-height by g = given ofFrameRoom ofFrame _ before word after refl refl refl (grid.sample-height f by .refuses) g
 
-  pub hingevale-group-rect : (i : ℕ) → Given (placedAnswer (rectFor (gridOf f) (gridOf f .side) i)) before word after → WordEnds ofIndexRoom 0 word before after
+  pub hingevale-group-rect : (i : ℕ) → Given (placedAnswer (rectFor (gridOf f) (gridOf f .side) i)) before word after
+      → WordEnds ofIndexRoom 0 word before after
   hingevale-group-rect i g = given ofIndexRoom ofIndex _ before word after refl refl refl (grid.group-rect f i .refuses) g
 
-  pub hingevale-lf-group-rect : (i : ℕ) → Given (placedAnswer (rectFor (gridOf f) (gridOf f .«lf_side») i)) before word after → WordEnds ofIndexRoom 0 word before after
+  pub hingevale-lf-group-rect : (i : ℕ) → Given (placedAnswer (rectFor (gridOf f) (gridOf f .«lf_side») i)) before word after
+      → WordEnds ofIndexRoom 0 word before after
   hingevale-lf-group-rect i g = given ofIndexRoom ofIndex _ before word after refl refl refl (grid.lf-group-rect f i .refuses) g
 
-  pub hingevale-group-idx-from-coord : (x y : ℕ) → Given (numberAnswer (indexFor (gridOf f) x y)) before word after → WordEnds ofIndexRoom 0 word before after
+  pub hingevale-group-idx-from-coord : (x y : ℕ) → Given (numberAnswer (indexFor (gridOf f) x y)) before word after
+      → WordEnds ofIndexRoom 0 word before after
   hingevale-group-idx-from-coord x y g = given ofIndexRoom ofIndex _ before word after refl refl refl (grid.group-idx-from-coord f x y .refuses) g
 
-  pub hingevale-lf-group-idx-from-group-idx : (i : ℕ) → Given (numberAnswer (lfIndexOf (gridOf f) i)) before word after → WordEnds ofIndexRoom 0 word before after
+  pub hingevale-lf-group-idx-from-group-idx : (i : ℕ) → Given (numberAnswer (lfIndexOf (gridOf f) i)) before word after
+      → WordEnds ofIndexRoom 0 word before after
   hingevale-lf-group-idx-from-group-idx i g = given ofIndexRoom ofIndex _ before word after refl refl refl (grid.lf-group-idx-from-group-idx f i .refuses) g
 
-  pub hingevale-is-group-collides-region : (i : ℕ) (region : Rect) → Given (touchAnswer (touchFor (gridOf f) (gridOf f .side) i region)) before word after
+  pub hingevale-is-group-collides-region : (i : ℕ) (region : Rect)
+      → Given (touchAnswer (touchFor (gridOf f) (gridOf f .side) i region)) before word after
       → WordEnds ofIndexRoom 0 word before after
   hingevale-is-group-collides-region i region g = given ofIndexRoom ofIndex _ before word after refl refl refl (grid.is-group-collides-region f i region .refuses) g
 
-  pub hingevale-is-lf-group-collides-region : (i : ℕ) (region : Rect) → Given (touchAnswer (touchFor (gridOf f) (gridOf f .«lf_side») i region)) before word after
+  pub hingevale-is-lf-group-collides-region : (i : ℕ) (region : Rect)
+      → Given (touchAnswer (touchFor (gridOf f) (gridOf f .«lf_side») i region)) before word after
       → WordEnds ofIndexRoom 0 word before after
   hingevale-is-lf-group-collides-region i region g = given ofIndexRoom ofIndex _ before word after refl refl refl (grid.is-lf-group-collides-region f i region .refuses) g
 
-  pub hingevale-section-of-kind : (kind pass group : ℕ) → Given (sectionAnswer (sectionOfNumbers f kind pass group)) before word after → WordEnds ofIndexRoom 0 word before after
+  pub hingevale-section-of-kind : (kind pass group : ℕ) → Given (sectionAnswer (sectionOfNumbers f kind pass group)) before word after
+      → WordEnds ofIndexRoom 0 word before after
   hingevale-section-of-kind kind pass group g = given ofIndexRoom ofIndex _ before word after refl refl refl (section-named f kind pass group .refuses) g
 
-  pub hingevale-kind-of : (section : ℕ) → Given (kindAnswer (kindOf f (sectionNumber section))) before word after → WordEnds ofIndexRoom 0 word before after
+  pub hingevale-kind-of : (section : ℕ) → Given (kindAnswer (kindOf f (sectionNumber section))) before word after
+      → WordEnds ofIndexRoom 0 word before after
   hingevale-kind-of section g = given ofIndexRoom ofIndex _ before word after refl refl refl (sections.kind-of f (sectionNumber section) .refuses) g
 
-  pub hingevale-section-of-sample : (x y pass : ℕ) → Given (sectionAnswer (sectionOfSample f x y pass)) before word after → WordEnds ofIndexRoom 0 word before after
+  pub hingevale-section-of-sample : (x y pass : ℕ) → Given (sectionAnswer (sectionOfSample f x y pass)) before word after
+      → WordEnds ofIndexRoom 0 word before after
   hingevale-section-of-sample x y pass g = given ofIndexRoom ofIndex _ before word after refl refl refl (sections.section-of-sample f x y pass .refuses) g
 
   pub hingevale-layout-of : Given (layoutAnswer (layoutOf f)) before word after → WordEnds ofFrameRoom 0 word before after
   hingevale-layout-of g = given ofFrameRoom ofFrame _ before word after refl refl refl (sections.layout-of f .refuses) g
 
-  pub hingevale-section-at : (offsets sizes : List ℕ) (section : ℕ) → Given (placeAnswer (placeOf f offsets sizes (sectionNumber section))) before word after
+  pub hingevale-section-at : (offsets sizes : List ℕ) (section : ℕ)
+      → Given (placeAnswer (placeOf f offsets sizes (sectionNumber section))) before word after
       → WordEnds ofIndexRoom 0 word before after
   hingevale-section-at offsets sizes section g =
       given ofIndexRoom ofIndexRoom _ before word after refl refl refl (sections.section-at f offsets sizes (sectionNumber section) .refuses) g
 
-  pub hingevale-sent-of-section : (order : List ℕ) (section : ℕ) → Given (sentAnswer (sentOfSection f order (sectionNumber section))) before word after
+  pub hingevale-sent-of-section : (order : List ℕ) (section : ℕ)
+      → Given (sentAnswer (sentOfSection f order (sectionNumber section))) before word after
       → WordEnds ofSentRoom 0 word before after
   hingevale-sent-of-section order section g = given ofSentRoom ofSent _ before word after refl refl refl (sections.sent-of-section f order (sectionNumber section) .refuses) g
 
@@ -199,7 +215,8 @@ module _ (l : List ℕ) (ok : rules l ≡ true) (needs : Bool) (last : ℕ) (big
       let same : after ≡ before = h .2 in
       inl (worded l last r (statusOf r) (lent before out) (lent after out) big refl (record { refuses = h .1; either = λ some. rw same }))
 
-  listed : (q : Reading) (t : Tables) (word : ℕ) (o z p i out out' : List ℕ) → Tells l needs last t (after q t) (q .answer) → Listed q t word o z p i out out'
+  listed : (q : Reading) (t : Tables) (word : ℕ) (o z p i out out' : List ℕ) → Tells l needs last t (after q t) (q .answer)
+      → Listed q t word o z p i out out'
       → TocWordEnds l needs last word (lent t out) (lent (tables o z p i) out')
   listed q t word o z p i out out' h d =
       let same : tables o z p i ≡ after q t = rw (d .offsets, d .sizes, d .order, d .inverse) in
@@ -213,7 +230,8 @@ module _ (l : List ℕ) (ok : rules l ≡ true) (needs : Bool) (last : ℕ) (big
       (picked (λ (r : Refusal). r .number ≡ 0 → ⊥) (eqb (gridOf f .refusal .number) 0) (refusal 3 0) (gridOf f .refusal) (λ e z. omega arith)
       (λ e. eqb-false (gridOf f .refusal .number) 0 e))
 
-  roomed-tells : (s : List ℕ) (f : Frame) (out : List ℕ) (q : Reading) (t : Tables) → holds l ofTocRoom ≡ true → Tells l needs last t (after q t) (q .answer)
+  roomed-tells : (s : List ℕ) (f : Frame) (out : List ℕ) (q : Reading) (t : Tables) → holds l ofTocRoom ≡ true
+      → Tells l needs last t (after q t) (q .answer)
       → Tells l needs last t (after (roomedReading s f out q) t) (roomedReading s f out q .answer)
   unfolding roomedReading refusedRead written
   roomed-tells s f out q t h d =
@@ -221,7 +239,8 @@ module _ (l : List ℕ) (ok : rules l ≡ true) (needs : Bool) (last : ℕ) (big
       (some-number (length s) f, refuses-more l ofTocRoom 0 last _ ok h (omega arith) (no-room (length s) f), refl) d
 
 pub hingevale-read-toc : (s : List ℕ) (f : Frame) (place : ℕ) (t : Tables) (word : ℕ) (o z p i out out' : List ℕ)
-    → Listed (roomedReading s f out (firstReading s f place t)) t word o z p i out out' → TocWordEnds ofToc true (bitCount s) word (lent t out) (lent (tables o z p i) out')
+    → Listed (roomedReading s f out (firstReading s f place t)) t word o z p i out out'
+    → TocWordEnds ofToc true (bitCount s) word (lent t out) (lent (tables o z p i) out')
 hingevale-read-toc s f place t word o z p i out out' d =
     let big : bitCount s < 2 ^ 56 = omega arith in
     listed ofToc refl true (bitCount s) big (roomedReading s f out (firstReading s f place t)) t word o z p i out out'
@@ -238,7 +257,8 @@ hingevale-read-toc-with-order s f place order t word o z p i out out' d =
 -- ---- the header entry
 
 -- whatever record is handed out
-pub give-record : (l : List ℕ) (last : ℕ) (a : HeaderTold) (word : ℕ) (w w' : List ℕ) (i i' : List ℤ) (r r' : List Float) → last < 2 ^ 56 → Refuses l last (a .refusal)
+pub give-record : (l : List ℕ) (last : ℕ) (a : HeaderTold) (word : ℕ) (w w' : List ℕ) (i i' : List ℤ) (r r' : List Float) → last < 2 ^ 56
+    → Refuses l last (a .refusal)
     → HandedOut a word w w' i i' r r' → WordEnds {A = List ℕ × List ℤ × List Float} l last word (w, i, r) (w', i', r')
 give-record l last a word w w' i i' r r' big d h =
     worded {A = List ℕ × List ℤ × List Float} l last (a .refusal) word (w, i, r) (w', i', r') big (h .status)
@@ -259,7 +279,8 @@ judged-all s f b =
     (judged (length s) f (length (b .name)) (length (b .upsampling)) (length (b .blending))) (noRecord (length s) f)
     (judge-header (length s) f (length (b .name)) (length (b .upsampling)) (length (b .blending))) (no-record (length s) f)
 
-together : {a b : Buffers} → (a .name ≡ b .name) × (a .upsampling ≡ b .upsampling) × (a .blending ≡ b .blending) × (a .numbers ≡ b .numbers) × (a .signs ≡ b .signs) × (a .reals ≡ b .reals)
+together : {a b : Buffers}
+    → (a .name ≡ b .name) × (a .upsampling ≡ b .upsampling) × (a .blending ≡ b .blending) × (a .numbers ≡ b .numbers) × (a .signs ≡ b .signs) × (a .reals ≡ b .reals)
     → a ≡ b
 together {a} {b} (n, u, c, w, i, r) =
     let same : buffers (a .name) (a .upsampling) (a .blending) (a .numbers) (a .signs) (a .reals)

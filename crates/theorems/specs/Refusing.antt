@@ -1,4 +1,5 @@
--- Demand 1 as one statement: a function ends with an answer or with a refusal of the rules, never with both, and a refusal changes nothing that was lent.
+-- Demand 1 as one statement: a function ends with an answer or with a refusal of the rules, never with both, and a refusal changes nothing that was
+-- lent.
 -- proofs/Refusing.antt has the law that all functions share, and the files behind it a law for each public function that can refuse, named after it.
 use Prim.Native.Nat.{ℕ, _*_, _/_, _%_, _≤_, _<_}
 use mathlib.Core.Path.{_≡_}
@@ -48,7 +49,8 @@ pub record Ends {A : Type 0} (numbers : List ℕ) (last : ℕ) (r : Refusal) (be
   pub refuses : Refuses numbers last r
   pub either : (r .number ≡ 0 → ⊥) → said ≡ beside
 
--- the answers of functions that lend nothing: a number, yes or no, a rectangle, a size, a grid, a section number, a sent number, a kind, a place, a layout
+-- the answers of functions that lend nothing: a number, yes or no, a rectangle, a size, a grid, a section number, a sent number, a kind, a place, a
+-- layout
 abbrev pub NumberEnds : List ℕ → Number → Type 0
 NumberEnds numbers n = Ends numbers 0 (n .refusal) 0 (n .value)
 
