@@ -76,6 +76,9 @@ three = 0 ∷ 0 ∷ 0 ∷ []
 abbrev eight : List ℕ
 eight = 0 ∷ 0 ∷ 0 ∷ 0 ∷ 0 ∷ 0 ∷ 0 ∷ 0 ∷ []
 
+abbrev room : List ℕ
+room = replicate 200 0
+
 -- headers whose blend mode is 5, whose first weight has exponent 31, and whose first two weights come to -1/4
 abbrev mode5 : List ℕ
 mode5 = 0 ∷ 176 ∷ []
@@ -172,7 +175,10 @@ every-number = record {
           (([], wide, 0, [], []), refl),
           (
             (([], one, 0, [], []), refl),
-            ((([], one, 1, three, []), refl), ((([], one, 0, three, []), refl), ((([], one, 0, three, 0 ∷ []), refl), (((2 ∷ [], one, 1, three, 0 ∷ []), refl), tt)))),
+            (
+              (([], one, 1, three, []), refl),
+              ((([], one, 0, three, []), refl), ((([], one, 0, three, 0 ∷ []), refl), (((2 ∷ [], one, 1, three, 0 ∷ []), refl), tt))),
+            ),
           ),
         ),
       ),
@@ -198,7 +204,8 @@ every-number = record {
   write-refused = (([], refl), tt);
   write-order-needed = (([], refl), tt);
   list-frame = (((three, []), refl), tt);
-  write-listing = (((bad, [], [], []), refl), (((empty, [], [], []), refl), (((wide, [], [], []), refl), (((one, [], [], []), refl), (((one, three, [], replicate 200 0), refl), tt)))));
+  write-listing =
+      (((bad, [], [], []), refl), (((empty, [], [], []), refl), (((wide, [], [], []), refl), (((one, [], [], []), refl), (((one, three, [], room), refl), tt)))));
   read-bits = (([], refl), tt);
   read-bool = (([], refl), tt);
   read-u32 = (([], refl), tt);
@@ -220,15 +227,24 @@ every-number = record {
   hingevale-group-rect = (((bad, []), refl), (((empty, []), refl), (((wide, []), refl), (((one, []), refl), (((one, eight), refl), tt)))));
   hingevale-lf-group-rect = (((bad, []), refl), (((empty, []), refl), (((wide, []), refl), (((one, []), refl), (((one, eight), refl), tt)))));
   hingevale-group-idx-from-coord = (((bad, []), refl), (((empty, []), refl), (((wide, []), refl), (((one, []), refl), (((one, eight), refl), tt)))));
-  hingevale-lf-group-idx-from-group-idx = (((bad, []), refl), (((empty, []), refl), (((wide, []), refl), (((one, []), refl), (((one, eight), refl), tt)))));
-  hingevale-is-group-collides-region = (((bad, []), refl), (((empty, []), refl), (((wide, []), refl), (((one, []), refl), (((one, eight), refl), tt)))));
-  hingevale-is-lf-group-collides-region = (((bad, []), refl), (((empty, []), refl), (((wide, []), refl), (((one, []), refl), (((one, eight), refl), tt)))));
+  hingevale-lf-group-idx-from-group-idx =
+      (((bad, []), refl), (((empty, []), refl), (((wide, []), refl), (((one, []), refl), (((one, eight), refl), tt)))));
+  hingevale-is-group-collides-region =
+      (((bad, []), refl), (((empty, []), refl), (((wide, []), refl), (((one, []), refl), (((one, eight), refl), tt)))));
+  hingevale-is-lf-group-collides-region =
+      (((bad, []), refl), (((empty, []), refl), (((wide, []), refl), (((one, []), refl), (((one, eight), refl), tt)))));
   hingevale-section-of-kind = (((bad, []), refl), (((empty, []), refl), (((wide, []), refl), (((one, []), refl), (((one, eight), refl), tt)))));
   hingevale-kind-of = (((bad, []), refl), (((empty, []), refl), (((wide, []), refl), (((one, []), refl), (((one, eight), refl), tt)))));
   hingevale-section-of-sample = (((bad, []), refl), (((empty, []), refl), (((wide, []), refl), (((one, []), refl), (((one, eight), refl), tt)))));
   hingevale-section-at = (((bad, []), refl), (((empty, []), refl), (((wide, []), refl), (((one, []), refl), (((one, eight), refl), tt)))));
-  hingevale-sent-of-section = (((bad, [], []), refl), (((empty, [], []), refl), (((wide, [], []), refl), (((one, [], []), refl), (((one, [], eight), refl), (((one, 0 ∷ [], eight), refl), tt))))));
-  hingevale-section-of-sent = (((bad, [], []), refl), (((empty, [], []), refl), (((wide, [], []), refl), (((one, [], []), refl), (((one, [], eight), refl), (((one, 0 ∷ [], eight), refl), tt))))));
+  hingevale-sent-of-section = (
+    ((bad, [], []), refl),
+    (((empty, [], []), refl), (((wide, [], []), refl), (((one, [], []), refl), (((one, [], eight), refl), (((one, 0 ∷ [], eight), refl), tt))))),
+  );
+  hingevale-section-of-sent = (
+    ((bad, [], []), refl),
+    (((empty, [], []), refl), (((wide, [], []), refl), (((one, [], []), refl), (((one, [], eight), refl), (((one, 0 ∷ [], eight), refl), tt))))),
+  );
   hingevale-section-in = ((([], []), refl), (((eight, eight), refl), tt));
   hingevale-read-toc = (
     ((long, one, 0, three), first-long long three too-long),
@@ -256,7 +272,10 @@ every-number = record {
           (([], wide, 0, [], []), refl),
           (
             (([], one, 0, [], []), refl),
-            ((([], one, 1, three, []), refl), ((([], one, 0, three, []), refl), ((([], one, 0, three, 0 ∷ []), refl), (((2 ∷ [], one, 1, three, 0 ∷ []), refl), tt)))),
+            (
+              (([], one, 1, three, []), refl),
+              ((([], one, 0, three, []), refl), ((([], one, 0, three, 0 ∷ []), refl), (((2 ∷ [], one, 1, three, 0 ∷ []), refl), tt))),
+            ),
           ),
         ),
       ),

@@ -18,7 +18,7 @@ use Rattle.listing.specs.Put.{fitted, answerBy, Texted}
 use Rattle.listing.specs.Text.{refusedText, orderText}
 use Rattle.listing.specs.Listed.{listing, listingRefusal}
 use Rattle.theorems.specs.Refusing.{Refuses, Ends, TextEnds, ofFrame, ofOrder, ofText, ofListing}
-use Rattle.theorems.proofs.Refusing.{refuses-none, refuses-with, refuses-pick, refuses-more, beside}
+use Rattle.theorems.proofs.Refusing.{refuses-none, refuses-here, refuses-pick, refuses-more, beside}
 use Rattle.theorems.proofs.GridEnds.{grid-refuses}
 use Rattle.theorems.proofs.SectionEnds.{check-order}
 
@@ -38,7 +38,8 @@ texted l r text before a after d h =
     }
 
 pub fits : (text out : List ℕ) → Refuses ofText 0 (fitted text out)
-fits text out = refuses-pick ofText 0 (leb (length text) (length out)) none (refusal 3 0) (refuses-none ofText 0 refl) (refuses-with ofText 0 3 0 refl refl (omega arith))
+fits text out =
+    refuses-pick ofText 0 (leb (length text) (length out)) none (refusal 3 0) (refuses-none ofText 0 refl) (refuses-here ofText 3 refl refl)
 
 -- `list_frame` and every other function that writes a text: whatever the text is
 pub list-frame : (text before : List ℕ) (a : TextAnswer) (after : List ℕ) → Texted (fitted text before) text before a after
@@ -59,13 +60,15 @@ listing-refuses : (f : Frame) (offsets sizes order out : List ℕ) → Refuses o
 unfolding listingRefusal
 listing-refuses f offsets sizes order out =
     let g : Grid = gridOf f in
-    let room : Bool = (leb (g .sections) (length offsets) && leb (g .sections) (length sizes)) && leb (length (listing f offsets sizes order)) (length out) in
+    let room : Bool =
+    (leb (g .sections) (length offsets) && leb (g .sections) (length sizes)) && leb (length (listing f offsets sizes order)) (length out) in
     refuses-pick ofListing 0 (eqb (g .refusal .number) 0) (pick room (checked (g .sections) order) (refusal 3 0)) (g .refusal)
     (refuses-pick ofListing 0 room (checked (g .sections) order) (refusal 3 0)
     (refuses-more ofListing ofOrder 0 0 _ refl refl (omega arith) (check-order (g .sections) order))
-    (refuses-with ofListing 0 3 0 refl refl (omega arith)))
+    (refuses-here ofListing 3 refl refl))
     (refuses-more ofListing ofFrame 0 0 (g .refusal) refl refl (omega arith) (grid-refuses f))
 
 pub write-listing : (f : Frame) (offsets sizes order before : List ℕ) (a : TextAnswer) (after : List ℕ)
     → Texted (listingRefusal f offsets sizes order before) (listing f offsets sizes order) before a after → TextEnds ofListing a before after
-write-listing f offsets sizes order before a after h = texted ofListing _ (listing f offsets sizes order) before a after (listing-refuses f offsets sizes order before) h
+write-listing f offsets sizes order before a after h =
+    texted ofListing _ (listing f offsets sizes order) before a after (listing-refuses f offsets sizes order before) h

@@ -57,7 +57,8 @@ pub zero-pad-within : (s : List ℕ) (c : Cursor) → c .at ≤ bitCount s
     → (field s true padding 0 c .next .fault ≡ c .fault) ⊎ Refuses (12 ∷ []) (bitCount s) (field s true padding 0 c .next .fault)
 unfolding field
 zero-pad-within s c i =
-    of-both (λ (r : Field). (r .next .fault ≡ c .fault) ⊎ Refuses (12 ∷ []) (bitCount s) (r .next .fault)) (true && clear c) (run (steps padding (c .at)) s (c .at) (c .at)) (record { value = 0; next = c })
+    of-both (λ (r : Field). (r .next .fault ≡ c .fault) ⊎ Refuses (12 ∷ []) (bitCount s) (r .next .fault)) (true && clear c)
+    (run (steps padding (c .at)) s (c .at) (c .at)) (record { value = 0; next = c })
     (inr (padded s (c .at) i)) (inl refl)
 
 -- the caller's number

@@ -63,14 +63,22 @@ module _ (l : List ℕ) (ok : rules l ≡ true) where
   low (u32 d) p h = (and-parts _ _ h .0, λ k. (and-parts _ _ h .0, λ x. tt))
   low (cases d n) p h =
       let four = and-parts _ _ h in
-      let five : among l 5 ≡ true = and-parts _ _ (four .1) .0 in
-      (four .0, λ k. (four .0, λ x. of-both Low (leb n ((chosen d k .base + x) % 2 ^ 32)) (refuses 5) (gives ((chosen d k .base + x) % 2 ^ 32)) five tt))
+      let five : among l 5 ≡ true = and-parts _ _ (four .1) .0 in (
+        four .0,
+        λ k. (
+          four .0,
+          λ x. of-both Low (leb n ((chosen d k .base + x) % 2 ^ 32)) (refuses 5)
+              (gives ((chosen d k .base + x) % 2 ^ 32)) five tt,
+        ),
+      )
   low u64 p h =
       let four : among l 4 ≡ true = and-parts _ _ h .0 in (
         four,
         λ k.
-            of-both Low (eqb k 0) (gives 0) (pick (eqb k 1) (takes 4 λ x. gives (1 + x)) (pick (eqb k 2) (takes 8 λ x. gives (17 + x)) (takes 12 λ x. more 6 x))) tt
-            (of-both Low (eqb k 1) (takes 4 λ x. gives (1 + x)) (pick (eqb k 2) (takes 8 λ x. gives (17 + x)) (takes 12 λ x. more 6 x)) (four, λ x. tt)
+            of-both Low (eqb k 0) (gives 0) (pick (eqb k 1) (takes 4 λ x. gives (1 + x))
+            (pick (eqb k 2) (takes 8 λ x. gives (17 + x)) (takes 12 λ x. more 6 x))) tt
+            (of-both Low (eqb k 1) (takes 4 λ x. gives (1 + x)) (pick (eqb k 2) (takes 8 λ x. gives (17 + x)) (takes 12 λ x. more 6 x))
+            (four, λ x. tt)
             (of-both Low (eqb k 2) (takes 8 λ x. gives (17 + x)) (takes 12 λ x. more 6 x) (four, λ x. tt) (four, λ x. low-more four 6 x))),
       )
   low f16 p h =
@@ -104,7 +112,12 @@ module _ (l : List ℕ) (ok : rules l ≡ true) where
     run-at (refuses n) p q i j = i
     run-at (takes n f) p q i j =
         picked (λ (r : Field). r .next .at ≤ last) (there s q n) (run (f (bitsAt s q n)) s p (q + n)) (cutAt s p (q + n))
-        (λ t. run-at (f (bitsAt s q n)) p (q + n) i (omega (arith, behind, leb-true (q + n) (bitCount s) (and-parts (leb n 32) (leb (q + n) (bitCount s)) t .1)))) (λ t. i)
+        (λ t. run-at (f (bitsAt s q n)) p (q + n) i (omega (
+          arith,
+          behind,
+          leb-true (q + n) (bitCount s)
+              (and-parts (leb n 32) (leb (q + n) (bitCount s)) t .1),
+        ))) (λ t. i)
     run-at (passes n t) p q i j =
         picked (λ (r : Field). r .next .at ≤ last) (leb (q + n) (bitCount s)) (run t s p (q + n)) (cutAt s p (q + n))
         (λ e. run-at t p (q + n) i (omega (arith, behind, leb-true (q + n) (bitCount s) e))) (λ e. i)
@@ -123,13 +136,15 @@ module _ (l : List ℕ) (ok : rules l ≡ true) where
         → Kept (c .fault) (field s on k d c .next .fault)
     unfolding field
     field-kept on k d c h i =
-        of-both (λ (r : Field). Kept (c .fault) (r .next .fault)) (on && clear c) (run (steps k (c .at)) s (c .at) (c .at)) (record { value = d; next = c })
+        of-both (λ (r : Field). Kept (c .fault) (r .next .fault)) (on && clear c) (run (steps k (c .at)) s (c .at) (c .at))
+        (record { value = d; next = c })
         (inr (run-refuses (steps k (c .at)) (low k (c .at) h) (c .at) (c .at) i)) (inl refl)
 
     field-at : (on : Bool) (k : Codec) (d : ℕ) (c : Cursor) → c .at ≤ last → field s on k d c .next .at ≤ last
     unfolding field
     field-at on k d c i =
-        of-both (λ (r : Field). r .next .at ≤ last) (on && clear c) (run (steps k (c .at)) s (c .at) (c .at)) (record { value = d; next = c }) (run-at (steps k (c .at)) (c .at) (c .at) i i) i
+        of-both (λ (r : Field). r .next .at ≤ last) (on && clear c) (run (steps k (c .at)) s (c .at) (c .at)) (record { value = d; next = c })
+        (run-at (steps k (c .at)) (c .at) (c .at) i i) i
 
     failed-kept : (bad : Bool) (number back : ℕ) (c : Cursor) → among l number ≡ true → c .at ≤ last
         → Kept (c .fault) (failed bad number back c .fault)
@@ -153,7 +168,8 @@ module _ (l : List ℕ) (ok : rules l ≡ true) where
 
   -- whatever a table reads
   pub read-hands : {R A : Type 0} (s : List ℕ) (t : Table R A) → Own l t → (c : Cursor) → Hands l s c (read t s c .next)
-  read-hands s t h c = record { stays = fault-stays t s c; faults = λ last b i. read-kept s last b t h c i .0; within = λ last b i. read-kept s last b t h c i .1 }
+  read-hands s t h c =
+      record { stays = fault-stays t s c; faults = λ last b i. read-kept s last b t h c i .0; within = λ last b i. read-kept s last b t h c i .1 }
 
   -- a field is a table of one row
   pub field-hands : (s : List ℕ) (on : Bool) (k : Codec) (d : ℕ) (c : Cursor) → holds l (ownOf k) ≡ true → Hands l s c (field s on k d c .next)
@@ -163,7 +179,8 @@ module _ (l : List ℕ) (ok : rules l ≡ true) where
   -- from a place within the input, where nothing was refused yet
   pub read-refuses : {R A : Type 0} (s : List ℕ) (t : Table R A) → Own l t → (p : ℕ) → p ≤ bitCount s
       → Refuses l (bitCount s) (read t s (start p) .next .fault)
-  read-refuses s t h p i = ⊎-elim (λ e. rw e (refuses-none l (bitCount s) ok)) (λ r. r) (read-kept s (bitCount s) (le-refl (bitCount s)) t h (start p) i .0)
+  read-refuses s t h p i =
+      ⊎-elim (λ e. rw e (refuses-none l (bitCount s) ok)) (λ r. r) (read-kept s (bitCount s) (le-refl (bitCount s)) t h (start p) i .0)
 
 -- tables one after another, inside each other, and repeated
 pub own-bind : {R A B : Type 0} (l : List ℕ) (t : Table R A) (f : A → Table R B) → Own l t → ((a : A) → Own l (f a)) → Own l (bind t f)

@@ -1,5 +1,6 @@
 -- What every refusal of a function comes from: none, one of its numbers, or one of two judgments by a test. A list holds what a shorter one holds.
 use Prim.Native.Nat.{ℕ, _≤_}
+use native.Mathlib.Nat.{le-refl}
 use native.Mathlib.Omega.{arith}
 use mathlib.Core.Path.{_≡_, refl, sym, _∙_, ap}
 use mathlib.Core.List.{List, [], _∷_}
@@ -50,6 +51,10 @@ refuses-with numbers last n place ok h l =
     let low = ruled numbers n ok h in
     record { ruled = ok; listed = or-right (eqb 0 n) (among numbers n) h; inside = l; nothing = λ z. absurd (omega (arith, low .0, z)) }
 
+-- at place 0
+pub refuses-here : (numbers : List ℕ) (n : ℕ) → rules numbers ≡ true → among numbers n ≡ true → Refuses numbers 0 (refusal n 0)
+refuses-here numbers n ok h = refuses-with numbers 0 n 0 ok h (le-refl 0)
+
 -- The law: one of two judgments by a test
 pub refuses-pick : (numbers : List ℕ) (last : ℕ) (b : Bool) (x y : Refusal) → Refuses numbers last x → Refuses numbers last y
     → Refuses numbers last (pick b x y)
@@ -62,7 +67,8 @@ refuses-more l more last end r ok h k d =
     record {
       ruled = ok;
       listed =
-          split (eqb 0 (r .number)) (λ t. rw t) (λ t. or-right (eqb 0 (r .number)) (among l (r .number)) (among-more l more (r .number) h (rw t at (d .listed))));
+          split (eqb 0 (r .number)) (λ t. rw t) (λ t. or-right (eqb 0 (r .number)) (among l (r .number))
+          (among-more l more (r .number) h (rw t at (d .listed))));
       inside = omega (arith, d .inside);
       nothing = d .nothing;
     }

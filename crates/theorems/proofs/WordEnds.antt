@@ -42,7 +42,7 @@ use Rattle.c_words.specs.Layouts.{layoutAnswer, layoutBy, sectionBy}
 use Rattle.c_words.specs.Contents.{tocStatus, tocAfter, noRoom, roomedReading, Listed}
 use Rattle.c_words.specs.Heading.{Buffers, buffers, HandedOut, HeadRead, recordRoom, noRecord, judgedAll, wordsAfter, signedAfter, floatsAfter}
 use Rattle.theorems.specs.Refusing.{among, rules, Refuses, Ends, Tells, SectionEnds, held, WordEnds, TocLent, ListLent, Needs, TocWordEnds, ofFrame, ofIndex, ofFrameRoom, ofIndexRoom, ofLayout, ofLayoutRoom, ofSent, ofSentRoom, ofToc, ofTocOrder, ofTocRoom, ofFacts, ofHeader, ofText}
-use Rattle.theorems.proofs.Refusing.{holds, ruled, refuses-none, refuses-with, refuses-pick, refuses-more, beside}
+use Rattle.theorems.proofs.Refusing.{holds, ruled, refuses-none, refuses-here, refuses-pick, refuses-more, beside}
 use Rattle.theorems.proofs.GridEnds as grid
 use Rattle.theorems.proofs.SectionEnds as sections
 use Rattle.theorems.proofs.TocEnds.{first-tells, second-tells}
@@ -53,7 +53,8 @@ use Rattle.theorems.proofs.ListingEnds.{fits}
 
 low : (l : List ℕ) (last : ℕ) (r : Refusal) → Refuses l last r → r .number ≤ 14
 low l last r d =
-    split (eqb 0 (r .number)) (λ t. let z : 0 ≡ r .number = eqb-true 0 (r .number) t in omega arith) (λ t. ruled l (r .number) (d .ruled) (rw t at (d .listed)) .1)
+    split (eqb 0 (r .number)) (λ t. let z : 0 ≡ r .number = eqb-true 0 (r .number) t in omega arith)
+    (λ t. ruled l (r .number) (d .ruled) (rw t at (d .listed)) .1)
 
 apart : (p n : ℕ) → n < 256 → ((p * 256 + n) % 256 ≡ n) × ((p * 256 + n) / 256 ≡ p)
 apart p n h = (omega arith, omega arith)
@@ -78,7 +79,7 @@ worded l last r word before after big e d =
 room : (l more : List ℕ) (r : Refusal) (short : Bool) → rules l ≡ true → holds l more ≡ true → among l 3 ≡ true → Refuses more 0 r
     → Refuses l 0 (roomed r short)
 room l more r short ok h three d =
-    refuses-pick l 0 (short && not (isEarly (r .number))) (refusal 3 0) r (refuses-with l 0 3 0 ok three (omega arith)) (refuses-more l more 0 0 r ok h (omega arith) d)
+    refuses-pick l 0 (short && not (isEarly (r .number))) (refusal 3 0) r (refuses-here l 3 ok three) (refuses-more l more 0 0 r ok h (omega arith) d)
 
 -- every function that hands out a record
 pub given : (l more : List ℕ) (a : Answer) (before : List ℕ) (word : ℕ) (after : List ℕ)
@@ -106,22 +107,22 @@ section-by words x y pass =
     let short : SectionAnswer = record { section = record { 0 = 0 }; refusal = refusal 3 0 } in
     let own : SectionEnds ofLayout (sectionIn (layoutBy words) x y pass) = sections.section-in (layoutBy words) x y pass in
     of-both (SectionEnds ofLayoutRoom) (ltb (length words) 8) short (sectionIn (layoutBy words) x y pass)
-    (record { refuses = refuses-with ofLayoutRoom 0 3 0 refl refl (omega arith); either = λ some. refl })
+    (record { refuses = refuses-here ofLayoutRoom 3 refl refl; either = λ some. refl })
     (record { refuses = refuses-more ofLayoutRoom ofLayout 0 0 _ refl refl (omega arith) (own .refuses); either = own .either })
 
 pub no-room : (n : ℕ) (f : Frame) → Refuses ofTocRoom 0 (noRoom n f)
 unfolding noRoom
 no-room n f =
     let own : Refusal = pick (eqb (gridOf f .refusal .number) 0) (refusal 3 0) (gridOf f .refusal) in
-    refuses-pick ofTocRoom 0 (ltb 16777216 n) (refusal 2 0) own (refuses-with ofTocRoom 0 2 0 refl refl (omega arith))
-    (refuses-pick ofTocRoom 0 (eqb (gridOf f .refusal .number) 0) (refusal 3 0) (gridOf f .refusal) (refuses-with ofTocRoom 0 3 0 refl refl (omega arith))
+    refuses-pick ofTocRoom 0 (ltb 16777216 n) (refusal 2 0) own (refuses-here ofTocRoom 2 refl refl)
+    (refuses-pick ofTocRoom 0 (eqb (gridOf f .refusal .number) 0) (refusal 3 0) (gridOf f .refusal) (refuses-here ofTocRoom 3 refl refl)
     (refuses-more ofTocRoom ofFrame 0 0 (gridOf f .refusal) refl refl (omega arith) (grid.grid-refuses f)))
 
 pub no-record : (n : ℕ) (f : Facts) → Refuses ofFacts 0 (noRecord n f)
 unfolding noRecord
 no-record n f =
-    refuses-pick ofFacts 0 (ltb 16777216 n) (refusal 2 0) (pick (badFacts f) (refusal 1 0) (refusal 3 0)) (refuses-with ofFacts 0 2 0 refl refl (omega arith))
-    (refuses-pick ofFacts 0 (badFacts f) (refusal 1 0) (refusal 3 0) (refuses-with ofFacts 0 1 0 refl refl (omega arith)) (refuses-with ofFacts 0 3 0 refl refl (omega arith)))
+    refuses-pick ofFacts 0 (ltb 16777216 n) (refusal 2 0) (pick (badFacts f) (refusal 1 0) (refusal 3 0)) (refuses-here ofFacts 2 refl refl)
+    (refuses-pick ofFacts 0 (badFacts f) (refusal 1 0) (refusal 3 0) (refuses-here ofFacts 1 refl refl) (refuses-here ofFacts 3 refl refl))
 
 -- ---- geometry and look-ups, over the frame of the six numbers, and with any lent words
 
@@ -150,21 +151,25 @@ module _ (f : Frame) (before : List ℕ) (word : ℕ) (after : List ℕ) where
 
   pub hingevale-lf-group-idx-from-group-idx : (i : ℕ) → Given (numberAnswer (lfIndexOf (gridOf f) i)) before word after
       → WordEnds ofIndexRoom 0 word before after
-  hingevale-lf-group-idx-from-group-idx i g = given ofIndexRoom ofIndex _ before word after refl refl refl (grid.lf-group-idx-from-group-idx f i .refuses) g
+  hingevale-lf-group-idx-from-group-idx i g =
+      given ofIndexRoom ofIndex _ before word after refl refl refl (grid.lf-group-idx-from-group-idx f i .refuses) g
 
   pub hingevale-is-group-collides-region : (i : ℕ) (region : Rect)
       → Given (touchAnswer (touchFor (gridOf f) (gridOf f .side) i region)) before word after
       → WordEnds ofIndexRoom 0 word before after
-  hingevale-is-group-collides-region i region g = given ofIndexRoom ofIndex _ before word after refl refl refl (grid.is-group-collides-region f i region .refuses) g
+  hingevale-is-group-collides-region i region g =
+      given ofIndexRoom ofIndex _ before word after refl refl refl (grid.is-group-collides-region f i region .refuses) g
 
   pub hingevale-is-lf-group-collides-region : (i : ℕ) (region : Rect)
       → Given (touchAnswer (touchFor (gridOf f) (gridOf f .«lf_side») i region)) before word after
       → WordEnds ofIndexRoom 0 word before after
-  hingevale-is-lf-group-collides-region i region g = given ofIndexRoom ofIndex _ before word after refl refl refl (grid.is-lf-group-collides-region f i region .refuses) g
+  hingevale-is-lf-group-collides-region i region g =
+      given ofIndexRoom ofIndex _ before word after refl refl refl (grid.is-lf-group-collides-region f i region .refuses) g
 
   pub hingevale-section-of-kind : (kind pass group : ℕ) → Given (sectionAnswer (sectionOfNumbers f kind pass group)) before word after
       → WordEnds ofIndexRoom 0 word before after
-  hingevale-section-of-kind kind pass group g = given ofIndexRoom ofIndex _ before word after refl refl refl (section-named f kind pass group .refuses) g
+  hingevale-section-of-kind kind pass group g =
+      given ofIndexRoom ofIndex _ before word after refl refl refl (section-named f kind pass group .refuses) g
 
   pub hingevale-kind-of : (section : ℕ) → Given (kindAnswer (kindOf f (sectionNumber section))) before word after
       → WordEnds ofIndexRoom 0 word before after
@@ -172,7 +177,8 @@ module _ (f : Frame) (before : List ℕ) (word : ℕ) (after : List ℕ) where
 
   pub hingevale-section-of-sample : (x y pass : ℕ) → Given (sectionAnswer (sectionOfSample f x y pass)) before word after
       → WordEnds ofIndexRoom 0 word before after
-  hingevale-section-of-sample x y pass g = given ofIndexRoom ofIndex _ before word after refl refl refl (sections.section-of-sample f x y pass .refuses) g
+  hingevale-section-of-sample x y pass g =
+      given ofIndexRoom ofIndex _ before word after refl refl refl (sections.section-of-sample f x y pass .refuses) g
 
   pub hingevale-layout-of : Given (layoutAnswer (layoutOf f)) before word after → WordEnds ofFrameRoom 0 word before after
   hingevale-layout-of g = given ofFrameRoom ofFrame _ before word after refl refl refl (sections.layout-of f .refuses) g
@@ -186,15 +192,18 @@ module _ (f : Frame) (before : List ℕ) (word : ℕ) (after : List ℕ) where
   pub hingevale-sent-of-section : (order : List ℕ) (section : ℕ)
       → Given (sentAnswer (sentOfSection f order (sectionNumber section))) before word after
       → WordEnds ofSentRoom 0 word before after
-  hingevale-sent-of-section order section g = given ofSentRoom ofSent _ before word after refl refl refl (sections.sent-of-section f order (sectionNumber section) .refuses) g
+  hingevale-sent-of-section order section g =
+      given ofSentRoom ofSent _ before word after refl refl refl (sections.sent-of-section f order (sectionNumber section) .refuses) g
 
   pub hingevale-section-of-sent : (inverse : List ℕ) (sent : ℕ) → Given (sectionAnswer (sectionOfSent f inverse (sentNumber sent))) before word after
       → WordEnds ofSentRoom 0 word before after
-  hingevale-section-of-sent inverse sent g = given ofSentRoom ofSent _ before word after refl refl refl (sections.section-of-sent f inverse (sentNumber sent) .refuses) g
+  hingevale-section-of-sent inverse sent g =
+      given ofSentRoom ofSent _ before word after refl refl refl (sections.section-of-sent f inverse (sentNumber sent) .refuses) g
 
 pub hingevale-section-in : (words : List ℕ) (x y pass : ℕ) (before : List ℕ) (word : ℕ) (after : List ℕ)
     → Given (sectionAnswer (sectionBy words x y pass)) before word after → WordEnds ofLayoutRoom 0 word before after
-hingevale-section-in words x y pass before word after g = given ofLayoutRoom ofLayoutRoom _ before word after refl refl refl (section-by words x y pass .refuses) g
+hingevale-section-in words x y pass before word after g =
+    given ofLayoutRoom ofLayoutRoom _ before word after refl refl refl (section-by words x y pass .refuses) g
 
 -- ---- the section entries
 
@@ -226,7 +235,8 @@ module _ (l : List ℕ) (ok : rules l ≡ true) (needs : Bool) (last : ℕ) (big
   some-number : (n : ℕ) (f : Frame) → noRoom n f .number ≡ 0 → ⊥
   unfolding noRoom
   some-number n f =
-      of-both (λ (r : Refusal). r .number ≡ 0 → ⊥) (ltb 16777216 n) (refusal 2 0) (pick (eqb (gridOf f .refusal .number) 0) (refusal 3 0) (gridOf f .refusal)) (λ z. omega arith)
+      of-both (λ (r : Refusal). r .number ≡ 0 → ⊥) (ltb 16777216 n) (refusal 2 0)
+      (pick (eqb (gridOf f .refusal .number) 0) (refusal 3 0) (gridOf f .refusal)) (λ z. omega arith)
       (picked (λ (r : Refusal). r .number ≡ 0 → ⊥) (eqb (gridOf f .refusal .number) 0) (refusal 3 0) (gridOf f .refusal) (λ e z. omega arith)
       (λ e. eqb-false (gridOf f .refusal .number) 0 e))
 
@@ -280,7 +290,8 @@ judged-all s f b =
     (judge-header (length s) f (length (b .name)) (length (b .upsampling)) (length (b .blending))) (no-record (length s) f)
 
 together : {a b : Buffers}
-    → (a .name ≡ b .name) × (a .upsampling ≡ b .upsampling) × (a .blending ≡ b .blending) × (a .numbers ≡ b .numbers) × (a .signs ≡ b .signs) × (a .reals ≡ b .reals)
+    → (a .name ≡ b .name) × (a .upsampling ≡ b .upsampling) × (a .blending ≡ b .blending)
+    × (a .numbers ≡ b .numbers) × (a .signs ≡ b .signs) × (a .reals ≡ b .reals)
     → a ≡ b
 together {a} {b} (n, u, c, w, i, r) =
     let same : buffers (a .name) (a .upsampling) (a .blending) (a .numbers) (a .signs) (a .reals)
@@ -298,11 +309,16 @@ hingevale-read-frame-header f s word before after h =
       either =
           λ some.
           let n : after .name ≡ before .name = h .named ∙ buffer-kept f s (judgedAll s f before) own some (stands f s .value .name) (before .name) in
-          let u : after .upsampling ≡ before .upsampling = h .upsampled ∙ buffer-kept f s (judgedAll s f before) own some (stands f s .value .upsampling) (before .upsampling) in
-          let b : after .blending ≡ before .blending = h .blended ∙ buffer-kept f s (judgedAll s f before) own some (words (stands f s .value .blending)) (before .blending) in
-          let w : after .numbers ≡ before .numbers = h .recorded .numbers ∙ beside (a .refusal) (wordsAfter a (before .numbers)) (before .numbers) some in
-          let i : after .signs ≡ before .signs = h .recorded .signs ∙ beside (a .refusal) (signedAfter (a .header) (before .signs)) (before .signs) some in
-          let r : after .reals ≡ before .reals = h .recorded .reals ∙ beside (a .refusal) (floatsAfter (a .header .«restoration_filter») (before .reals)) (before .reals) some in
+          let u : after .upsampling ≡ before .upsampling =
+          h .upsampled ∙ buffer-kept f s (judgedAll s f before) own some (stands f s .value .upsampling) (before .upsampling) in
+          let b : after .blending ≡ before .blending =
+          h .blended ∙ buffer-kept f s (judgedAll s f before) own some (words (stands f s .value .blending)) (before .blending) in
+          let w : after .numbers ≡ before .numbers =
+          h .recorded .numbers ∙ beside (a .refusal) (wordsAfter a (before .numbers)) (before .numbers) some in
+          let i : after .signs ≡ before .signs =
+          h .recorded .signs ∙ beside (a .refusal) (signedAfter (a .header) (before .signs)) (before .signs) some in
+          let r : after .reals ≡ before .reals =
+          h .recorded .reals ∙ beside (a .refusal) (floatsAfter (a .header .«restoration_filter») (before .reals)) (before .reals) some in
           together (n, u, b, w, i, r);
     })
 
@@ -317,7 +333,7 @@ hingevale-list short text before after out out' word e b w =
     let r : Refusal = pick short (refusal 3 0) (fitted text before) in
     worded {A = ListLent} ofText 0 r word _ _ (omega arith) e
     (record {
-      refuses = refuses-pick ofText 0 short (refusal 3 0) (fitted text before) (refuses-with ofText 0 3 0 refl refl (omega arith)) (fits text before);
+      refuses = refuses-pick ofText 0 short (refusal 3 0) (fitted text before) (refuses-here ofText 3 refl refl) (fits text before);
       either =
           λ some.
           let x : after ≡ before = b ∙ beside r (sets before 0 text) before some in

@@ -26,7 +26,7 @@ use Rattle.sections.specs.Kinds.{sectionOfKind, kindOf}
 use Rattle.sections.specs.Lookups.{sectionOfSample, placeOf, sentOfSection, sectionOfSent}
 use Rattle.layout.specs.declared.Layout.{Layout}
 use Rattle.layout.specs.Layouts.{layoutOf, sectionIn}
-use Rattle.toc.specs.Reading.{tables, tocNumbers, firstReading, secondReading}
+use Rattle.toc.specs.Reading.{Tables, tables, tocNumbers, Reading, firstReading, secondReading}
 use Rattle.listing.specs.Put.{fitted}
 use Rattle.listing.specs.Text.{refusedText, orderText}
 use Rattle.listing.specs.Listed.{listingRefusal}
@@ -42,9 +42,16 @@ abbrev pub Comes : {I : Type 0} → (I → Refusal) → List ℕ → Type 0
 Comes {I} f [] = Unit {0}
 Comes {I} f (n ∷ more) = ((i : I) × (f i .number ≡ n)) × Comes f more
 
--- a frame, and a lent table or two
+-- a frame, and what is lent
 abbrev Lent : Type 0
 Lent = Frame × List ℕ
+
+-- what a section entry refuses, with the same table lent four times
+abbrev of : Reading → Refusal
+of q = tocNumbers (q .answer) .refusal
+
+abbrev four : List ℕ → Tables
+four t = tables t t t t
 
 -- a field at the first bit
 abbrev first : Codec → List ℕ → Refusal
@@ -78,12 +85,12 @@ pub record EveryNumber : Type 0 where
   pub layout-of : Comes (λ (f : Frame). layoutOf f .refusal) ofFrame
   pub section-in : Comes (λ (l : Layout). sectionIn l 0 0 0 .refusal) ofLayout
   -- the section entries: bytes, a frame, a place, the same table for all four, and a lent order
-  pub read-toc : Comes (λ (x : List ℕ × Frame × ℕ × List ℕ). tocNumbers (firstReading (x .0) (x .1) (x .2) (tables (x .3) (x .3) (x .3) (x .3)) .answer) .refusal) ofToc
-  pub read-toc-with-order :
-      Comes (λ (x : List ℕ × Frame × ℕ × List ℕ × List ℕ). tocNumbers (secondReading (x .0) (x .1) (x .2) (x .4) (tables (x .3) (x .3) (x .3) (x .3)) .answer) .refusal) ofTocOrder
+  pub read-toc : Comes (λ (x : List ℕ × Frame × ℕ × List ℕ). of (firstReading (x .0) (x .1) (x .2) (four (x .3)))) ofToc
+  pub read-toc-with-order : Comes (λ (x : List ℕ × Frame × ℕ × List ℕ × List ℕ). of (secondReading (x .0) (x .1) (x .2) (x .4) (four (x .3)))) ofTocOrder
   -- the header: the input's length or its bytes, the facts, and how many bytes of name are lent
   pub judge-header : Comes (λ (x : ℕ × Facts × ℕ). judged (x .0) (x .1) (x .2) 0 0) ofFacts
-  pub read-frame-header : Comes (λ (x : List ℕ × Facts × ℕ). answered (x .1) (judged (length (x .0)) (x .1) (x .2) 0 0) (stands (x .1) (x .0)) .refusal) ofHeader
+  pub read-frame-header :
+      Comes (λ (x : List ℕ × Facts × ℕ). answered (x .1) (judged (length (x .0)) (x .1) (x .2) 0 0) (stands (x .1) (x .0)) .refusal) ofHeader
   -- texts
   pub write-refused : Comes (λ (out : List ℕ). fitted (refusedText none) out) ofText
   pub write-order-needed : Comes (λ (out : List ℕ). fitted (orderText 0) out) ofText
@@ -110,10 +117,12 @@ pub record EveryNumber : Type 0 where
   pub hingevale-sample-height : Comes (λ (x : Lent). refusalFor (numberAnswer (sampled (x .0) (x .0 .height) 1)) (x .1)) ofFrameRoom
   pub hingevale-layout-of : Comes (λ (x : Lent). refusalFor (layoutAnswer (layoutOf (x .0))) (x .1)) ofFrameRoom
   pub hingevale-group-rect : Comes (λ (x : Lent). refusalFor (placedAnswer (rectFor (gridOf (x .0)) (gridOf (x .0) .side) 1)) (x .1)) ofIndexRoom
-  pub hingevale-lf-group-rect : Comes (λ (x : Lent). refusalFor (placedAnswer (rectFor (gridOf (x .0)) (gridOf (x .0) .«lf_side») 1)) (x .1)) ofIndexRoom
+  pub hingevale-lf-group-rect :
+      Comes (λ (x : Lent). refusalFor (placedAnswer (rectFor (gridOf (x .0)) (gridOf (x .0) .«lf_side») 1)) (x .1)) ofIndexRoom
   pub hingevale-group-idx-from-coord : Comes (λ (x : Lent). refusalFor (numberAnswer (indexFor (gridOf (x .0)) 128 0)) (x .1)) ofIndexRoom
   pub hingevale-lf-group-idx-from-group-idx : Comes (λ (x : Lent). refusalFor (numberAnswer (lfIndexOf (gridOf (x .0)) 1)) (x .1)) ofIndexRoom
-  pub hingevale-is-group-collides-region : Comes (λ (x : Lent). refusalFor (touchAnswer (touchFor (gridOf (x .0)) (gridOf (x .0) .side) 1 (rect 0 0 1 1))) (x .1)) ofIndexRoom
+  pub hingevale-is-group-collides-region :
+      Comes (λ (x : Lent). refusalFor (touchAnswer (touchFor (gridOf (x .0)) (gridOf (x .0) .side) 1 (rect 0 0 1 1))) (x .1)) ofIndexRoom
   pub hingevale-is-lf-group-collides-region :
       Comes (λ (x : Lent). refusalFor (touchAnswer (touchFor (gridOf (x .0)) (gridOf (x .0) .«lf_side») 1 (rect 0 0 1 1))) (x .1)) ofIndexRoom
   pub hingevale-section-of-kind : Comes (λ (x : Lent). refusalFor (sectionAnswer (sectionOfNumbers (x .0) 5 0 0)) (x .1)) ofIndexRoom
@@ -126,9 +135,9 @@ pub record EveryNumber : Type 0 where
       Comes (λ (x : Frame × List ℕ × List ℕ). refusalFor (sectionAnswer (sectionOfSent (x .0) (x .1) (sentNumber 1))) (x .2)) ofSentRoom
   pub hingevale-section-in : Comes (λ (x : List ℕ × List ℕ). refusalFor (sectionAnswer (sectionBy (x .0) 0 0 0)) (x .1)) ofLayoutRoom
   pub hingevale-read-toc :
-      Comes (λ (x : List ℕ × Frame × ℕ × List ℕ). tocNumbers (roomedReading (x .0) (x .1) (x .3) (firstReading (x .0) (x .1) (x .2) (tables (x .3) (x .3) (x .3) (x .3))) .answer) .refusal) ofToc
+      Comes (λ (x : List ℕ × Frame × ℕ × List ℕ). of (roomedReading (x .0) (x .1) (x .3) (firstReading (x .0) (x .1) (x .2) (four (x .3))))) ofToc
   pub hingevale-read-toc-with-order :
       Comes (λ (x : List ℕ × Frame × ℕ × List ℕ × List ℕ).
-      tocNumbers (roomedReading (x .0) (x .1) (x .3) (secondReading (x .0) (x .1) (x .2) (x .4) (tables (x .3) (x .3) (x .3) (x .3))) .answer) .refusal) ofTocOrder
+      of (roomedReading (x .0) (x .1) (x .3) (secondReading (x .0) (x .1) (x .2) (x .4) (four (x .3))))) ofTocOrder
   pub hingevale-read-frame-header :
       Comes (λ (x : List ℕ × Facts × Buffers). answered (x .1) (judgedAll (x .0) (x .1) (x .2)) (stands (x .1) (x .0)) .refusal) ofHeader

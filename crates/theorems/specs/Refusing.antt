@@ -66,7 +66,8 @@ SizeEnds numbers z = Ends numbers 0 (z .refusal) (0 ∷ 0 ∷ []) (z .width ∷ 
 abbrev pub GridEnds : List ℕ → Grid → Type 0
 GridEnds numbers g =
     Ends numbers 0 (g .refusal) (0 ∷ 0 ∷ 0 ∷ 0 ∷ 0 ∷ 0 ∷ 0 ∷ 0 ∷ 0 ∷ 0 ∷ 0 ∷ [])
-    (g .width ∷ g .height ∷ g .side ∷ g .«lf_side» ∷ g .columns ∷ g .rows ∷ g .«lf_columns» ∷ g .«lf_rows» ∷ g .groups ∷ g .«lf_groups» ∷ g .sections ∷ [])
+    (g .width ∷ g .height ∷ g .side ∷ g .«lf_side»
+    ∷ g .columns ∷ g .rows ∷ g .«lf_columns» ∷ g .«lf_rows» ∷ g .groups ∷ g .«lf_groups» ∷ g .sections ∷ [])
 
 abbrev pub SectionEnds : List ℕ → SectionAnswer → Type 0
 SectionEnds numbers a = Ends numbers 0 (a .refusal) 0 (a .section .0)
@@ -83,7 +84,8 @@ PlaceEnds numbers a = Ends numbers 0 (a .refusal) (0 ∷ 0 ∷ []) (a .offset �
 abbrev pub LayoutEnds : List ℕ → LayoutAnswer → Type 0
 LayoutEnds numbers a =
     Ends numbers 0 (a .refusal) (0 ∷ 0 ∷ 0 ∷ 0 ∷ 0 ∷ 0 ∷ 0 ∷ 0 ∷ [])
-    (a .layout .width ∷ a .layout .height ∷ a .layout .power ∷ a .layout .columns ∷ a .layout .groups ∷ a .layout .«lf_groups» ∷ a .layout .sections ∷ a .layout .passes ∷ [])
+    (a .layout .width ∷ a .layout .height ∷ a .layout .power ∷ a .layout .columns
+    ∷ a .layout .groups ∷ a .layout .«lf_groups» ∷ a .layout .sections ∷ a .layout .passes ∷ [])
 
 -- the header entry: its record and the place behind it, and the three lent buffers
 pub record HeaderSaid : Type 0 where
@@ -102,7 +104,8 @@ pub record TextSaid : Type 0 where
   pub bytes : List ℕ
 
 abbrev pub TextEnds : List ℕ → TextAnswer → List ℕ → List ℕ → Type 0
-TextEnds numbers a before after = Ends {A = TextSaid} numbers 0 (a .refusal) (record { length = 0; bytes = before }) (record { length = a .length; bytes = after })
+TextEnds numbers a before after =
+    Ends {A = TextSaid} numbers 0 (a .refusal) (record { length = 0; bytes = before }) (record { length = a .length; bytes = after })
 
 -- The section entries answer a table, or "order needed" where no order is lent, or a refusal, which has a number; only a table changes what was lent.
 abbrev pub Tells : {A : Type 0} → List ℕ → Bool → ℕ → A → A → TocRead → Type 0
