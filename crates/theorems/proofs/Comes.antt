@@ -3,16 +3,14 @@ use Prim.Native.Nat.{ℕ}
 use mathlib.Core.Path.{_≡_, refl, ap}
 use mathlib.Core.Bool.{true, false}
 use mathlib.Core.List.{List, [], _∷_}
-use lib.Dec.{ltb, eqb}
+use lib.Dec.{ltb}
 use lib.Ieee.{nan}
 use lib.IntN.{pos}
 use lib.ListN.{length, replicate, length-replicate}
-use Rattle.bits.specs.declared.Refusal.{Refusal}
 use Rattle.bits.specs.Table.{read, bind, within, times, failed}
 use Rattle.bits.specs.Codec.{field, more}
 use Rattle.bits.specs.Steps.{run, cut}
 use Rattle.bits.specs.Bits.{bitsAt}
-use Rattle.bits.specs.Half.{half}
 use Rattle.bits.specs.Extensions.{extensions, lengths}
 use Rattle.filter.specs.Filter.{restoration}
 use Rattle.filter.specs.Gabor.{gabor, channel}
@@ -39,7 +37,7 @@ use Rattle.sections.specs.Kinds.{hasKind, kindAt, sectionAnswer, sectionOfKind,
 use Rattle.sections.specs.Lookups.{hasSample, sectionOfSample, placeRefusal, placeBy, placeOf, sentOfSection, sectionOfSent}
 use Rattle.layout.specs.Layouts.{nowhere, layoutOf, hasIn, sectionIn}
 use Rattle.toc.specs.Sizes.{tocRows, sizeRows}
-use Rattle.toc.specs.Reading.{Tables, tables, tocNumbers, roomFor, judgedBy, judgedOrder, tocOf, sizedAnswer, firstRead, secondRead, refusedRead, firstReading, secondReading}
+use Rattle.toc.specs.Reading.{tables, tocNumbers, roomFor, judgedBy, judgedOrder, tocOf, sizedAnswer, firstRead, secondRead, refusedRead, firstReading, secondReading}
 use Rattle.decimal.specs.Decimal.{spelled, decimal}
 use Rattle.listing.specs.Text.{column, heading, kindName, rowText, rowsFrom, totalText, refusedText, orderText}
 use Rattle.listing.specs.Listed.{rectBy, rowAt, listingText, listingRefusal}

@@ -11,7 +11,6 @@ use Rattle.bits.proofs.Numbered.{of-both}
 use Rattle.grid.specs.declared.Frame.{Frame}
 use Rattle.grid.specs.declared.Grid.{Grid}
 use Rattle.grid.specs.declared.Rect.{Rect}
-use Rattle.grid.specs.declared.Placed.{Placed}
 use Rattle.grid.specs.Measured.{goodRecord, zeroSize, tooMany, laid, refusedGrid, gridOf}
 use Rattle.grid.specs.Groups.{has, judge, numbered, touching, placed, sampled, told, rectOf, rectFor, sizeOf, lfIndexOf, indexFor, touchFor}
 use Rattle.theorems.specs.Refusing.{Refuses, Ends, NumberEnds, TouchEnds, RectEnds, SizeEnds, GridEnds, ofFrame, ofIndex}

@@ -1,7 +1,7 @@
 -- Texts: 3 where one doesn't fit; a table's listing 8, 9, 10, 3, 13. Refused, the length is 0 and the lent bytes are as they were.
 use Prim.Native.Nat.{ℕ}
 use native.Mathlib.Omega.{arith}
-use mathlib.Core.Path.{_≡_, refl, sym, _∙_, ap}
+use mathlib.Core.Path.{_≡_, refl, _∙_, ap}
 use mathlib.Core.List.{List}
 use mathlib.Core.Bool.{Bool, _&&_}
 use lib.Dec.{eqb, leb}
@@ -17,7 +17,7 @@ use Rattle.listing.specs.declared.TextAnswer.{TextAnswer}
 use Rattle.listing.specs.Put.{fitted, answerBy, Texted}
 use Rattle.listing.specs.Text.{refusedText, orderText}
 use Rattle.listing.specs.Listed.{listing, listingRefusal}
-use Rattle.theorems.specs.Refusing.{Refuses, Ends, TextEnds, ofFrame, ofOrder, ofText, ofListing}
+use Rattle.theorems.specs.Refusing.{Refuses, TextEnds, ofFrame, ofOrder, ofText, ofListing}
 use Rattle.theorems.proofs.Refusing.{refuses-none, refuses-here, refuses-pick, refuses-more, beside}
 use Rattle.theorems.proofs.GridEnds.{grid-refuses}
 use Rattle.theorems.proofs.SectionEnds.{check-order}

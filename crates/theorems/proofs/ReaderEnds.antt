@@ -15,7 +15,7 @@ use Rattle.bits.specs.Refusals.{clear}
 use Rattle.bits.specs.Bits.{bitsAt, bitCount}
 use Rattle.bits.specs.Steps.{Steps, gives, refuses, cut, run}
 use Rattle.bits.specs.Codec.{u, bool, u32, cases, u64, f16, padding, skip, steps, wideOf, field}
-use Rattle.bits.specs.Table.{Table, ends, fails, failed, read}
+use Rattle.bits.specs.Table.{ends, fails, failed, read}
 use Rattle.bits.specs.Extensions.{whole, extensions}
 use Rattle.bits.proofs.Reading.{padding-there}
 use Rattle.bits.proofs.Numbered.{of-both}

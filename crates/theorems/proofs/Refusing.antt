@@ -2,18 +2,18 @@
 use Prim.Native.Nat.{ℕ, _≤_}
 use native.Mathlib.Nat.{le-refl}
 use native.Mathlib.Omega.{arith}
-use mathlib.Core.Path.{_≡_, refl, sym, _∙_, ap}
+use mathlib.Core.Path.{_≡_, refl}
 use mathlib.Core.List.{List, [], _∷_}
 use mathlib.Core.Bool.{Bool, true, false, _&&_, _||_, false≢true}
-use lib.Dec.{eqb, leb}
-use borrow.Author.Tests.{eqb-true, eqb-false, leb-true}
+use lib.Dec.{eqb}
+use borrow.Author.Tests.{eqb-true, leb-true}
 use Rattle.bits.specs.declared.Refusal.{Refusal}
 use Rattle.bits.specs.Refusals.{pick, refusal, none}
 use Rattle.bits.proofs.Reading.{picked}
 use Rattle.bits.proofs.Numbered.{of-both}
 use Rattle.order.proofs.Entries.{split}
 use Rattle.grid.proofs.Accepted.{and-parts}
-use Rattle.theorems.specs.Refusing.{among, rules, Refuses, Ends}
+use Rattle.theorems.specs.Refusing.{among, rules, Refuses}
 
 -- whether a list holds all of another
 abbrev pub holds : List ℕ → List ℕ → Bool

@@ -1,14 +1,13 @@
 -- Orders, sections and layouts: 10, 13, 14 of a lent order; 8, 9, 10 of a frame before them; beside a refusal every number is 0.
 use Prim.Native.Nat.{ℕ}
 use native.Mathlib.Omega.{arith}
-use mathlib.Core.Path.{_≡_, refl, _∙_, ap}
+use mathlib.Core.Path.{_≡_, refl, ap}
 use mathlib.Core.List.{List, [], _∷_}
-use mathlib.Core.Bool.{Bool, true, false, _&&_}
+use mathlib.Core.Bool.{Bool, _&&_}
 use lib.Dec.{eqb, leb, ltb}
 use lib.ListN.{length, getD}
 use Rattle.bits.specs.declared.Refusal.{Refusal}
 use Rattle.bits.specs.Refusals.{pick, refusal, none}
-use Rattle.bits.proofs.Reading.{picked}
 use Rattle.bits.proofs.Numbered.{of-both}
 use Rattle.grid.specs.declared.Frame.{Frame}
 use Rattle.grid.specs.declared.Grid.{Grid}
@@ -16,12 +15,9 @@ use Rattle.grid.specs.Measured.{gridOf}
 use Rattle.grid.specs.Groups.{judge}
 use Rattle.order.specs.declared.SectionNumber.{SectionNumber}
 use Rattle.order.specs.declared.SentNumber.{SentNumber}
-use Rattle.order.specs.declared.SectionAnswer.{SectionAnswer}
-use Rattle.order.specs.declared.SentAnswer.{SentAnswer}
 use Rattle.order.specs.Order.{isOrder, checked}
 use Rattle.order.specs.Tables.{inverted, inverseAfter}
 use Rattle.order.specs.Numbers.{lookedUp, entryAt, sentOf, sectionOf}
-use Rattle.sections.specs.declared.KindNumbers.{KindNumbers}
 use Rattle.sections.specs.declared.TocGroupKind.{TocGroupKind}
 use Rattle.sections.specs.declared.TocGroupKind.the-variants.{All}
 use Rattle.sections.specs.Kinds.{numbersOf, hasKind, kindAt, sectionAnswer, sectionOfKind, kindOf}

@@ -1,8 +1,8 @@
 -- The section entries: a table, "order needed" where no order is lent, or a refusal with a number of theirs at a place within the input; only a
 -- table is written.
-use Prim.Native.Nat.{ℕ, _*_, _≤_, _<_}
+use Prim.Native.Nat.{ℕ, _*_, _≤_}
 use native.Mathlib.Omega.{arith}
-use mathlib.Core.Path.{_≡_, refl, sym, _∙_, ap}
+use mathlib.Core.Path.{_≡_, refl}
 use mathlib.Core.List.{List, [], _∷_}
 use mathlib.Core.Bool.{Bool, true, false}
 use lib.Dec.{eqb, leb, ltb}
@@ -16,7 +16,6 @@ use Rattle.bits.specs.Table.{Out, read}
 use Rattle.bits.proofs.Reading.{picked, read-within-end}
 use Rattle.bits.proofs.Numbered.{of-both}
 use Rattle.grid.specs.declared.Frame.{Frame}
-use Rattle.grid.specs.declared.Grid.{Grid}
 use Rattle.grid.specs.Measured.{gridOf}
 use Rattle.order.specs.Order.{checked}
 use Rattle.toc.specs.declared.TocRead.{TocRead}
@@ -25,7 +24,7 @@ use Rattle.toc.specs.Sizes.{Sent, sizeRows, tocRows}
 use Rattle.toc.specs.Reading.{Tables, tables, roomy, judgedBy, judged, judgedOrder, Reading, tocOf, sizedAnswer, firstRead, secondRead, refusedRead, firstReading, secondReading, written, after, Done}
 use Rattle.toc.proofs.Judging.{judged-fair}
 use Rattle.toc.proofs.Accepted.{Telling, same-answer, first-telling, second-telling}
-use Rattle.theorems.specs.Refusing.{rules, Refuses, Tells, ofFrame, ofOrder, ofToc, ofTocOrder}
+use Rattle.theorems.specs.Refusing.{Refuses, Tells, ofFrame, ofOrder, ofToc, ofTocOrder}
 use Rattle.theorems.proofs.Refusing.{holds, refuses-none, refuses-here, refuses-pick, refuses-more}
 use Rattle.theorems.proofs.Readers.{Own, own-bind, own-inside, own-pick, own-times, read-refuses}
 use Rattle.theorems.proofs.GridEnds.{grid-refuses}

@@ -3,9 +3,9 @@
 use Prim.Native.Nat.{ℕ, _+_, _*_, _/_, _%_, _^_, _≤_, _<_}
 use native.Mathlib.Nat.{mod-eq-of-lt}
 use native.Mathlib.Omega.{arith}
-use mathlib.Core.Path.{_≡_, refl, sym, _∙_, ap}
-use mathlib.Core.Logic.{_⊎_, inl, inr}
-use mathlib.Core.List.{List, [], _∷_}
+use mathlib.Core.Path.{_≡_, refl, _∙_, ap}
+use mathlib.Core.Logic.{inl, inr}
+use mathlib.Core.List.{List}
 use mathlib.Core.Bool.{Bool, true, false, not, _&&_}
 use lib.Dec.{eqb, leb, ltb}
 use lib.Ieee.{Float}
@@ -14,7 +14,7 @@ use lib.ListN.{length, set}
 use lib.Seq.{sets}
 use borrow.Author.Tests.{eqb-true, eqb-false}
 use Rattle.bits.specs.declared.Refusal.{Refusal}
-use Rattle.bits.specs.Refusals.{pick, refusal, none}
+use Rattle.bits.specs.Refusals.{pick, refusal}
 use Rattle.bits.specs.Bits.{bitCount}
 use Rattle.bits.proofs.Reading.{picked}
 use Rattle.bits.proofs.Numbered.{of-both}
@@ -41,12 +41,12 @@ use Rattle.c_words.specs.Records.{sectionNumber, sentNumber, numberAnswer, touc
 use Rattle.c_words.specs.Layouts.{layoutAnswer, layoutBy, sectionBy}
 use Rattle.c_words.specs.Contents.{tocStatus, tocAfter, noRoom, roomedReading, Listed}
 use Rattle.c_words.specs.Heading.{Buffers, buffers, HandedOut, HeadRead, recordRoom, noRecord, judgedAll, wordsAfter, signedAfter, floatsAfter}
-use Rattle.theorems.specs.Refusing.{among, rules, Refuses, Ends, Tells, SectionEnds, held, WordEnds, TocLent, ListLent, Needs, TocWordEnds, ofFrame, ofIndex, ofFrameRoom, ofIndexRoom, ofLayout, ofLayoutRoom, ofSent, ofSentRoom, ofToc, ofTocOrder, ofTocRoom, ofFacts, ofHeader, ofText}
+use Rattle.theorems.specs.Refusing.{among, rules, Refuses, Ends, Tells, SectionEnds, held, WordEnds, TocLent, ListLent, TocWordEnds, ofFrame, ofIndex, ofFrameRoom, ofIndexRoom, ofLayout, ofLayoutRoom, ofSent, ofSentRoom, ofToc, ofTocOrder, ofTocRoom, ofFacts, ofHeader, ofText}
 use Rattle.theorems.proofs.Refusing.{holds, ruled, refuses-none, refuses-here, refuses-pick, refuses-more, beside}
 use Rattle.theorems.proofs.GridEnds as grid
 use Rattle.theorems.proofs.SectionEnds as sections
 use Rattle.theorems.proofs.TocEnds.{first-tells, second-tells}
-use Rattle.theorems.proofs.HeaderEnds.{judge-header, answered-refuses, stopped, buffer-kept}
+use Rattle.theorems.proofs.HeaderEnds.{judge-header, answered-refuses, buffer-kept}
 use Rattle.theorems.proofs.ListingEnds.{fits}
 
 -- ---- the word

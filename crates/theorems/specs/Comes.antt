@@ -1,13 +1,12 @@
 -- No list of numbers is longer than it has to be: of each number there is an input on which the function refuses with it.
 use Prim.Native.Nat.{ℕ}
 use mathlib.Core.Path.{_≡_}
-use mathlib.Core.Bool.{Bool, true, false}
+use mathlib.Core.Bool.{true}
 use mathlib.Core.List.{List, [], _∷_}
-use lib.Dec.{ltb}
 use lib.ListN.{length}
 use Rattle.bits.specs.declared.Refusal.{Refusal}
-use Rattle.bits.specs.Refusals.{pick, refusal, none, start}
-use Rattle.bits.specs.Codec.{Codec, u, bool, u32, cases, u64, f16, padding, skip, val, plus, oneOf, field}
+use Rattle.bits.specs.Refusals.{refusal, none, start}
+use Rattle.bits.specs.Codec.{Codec, u, bool, u32, cases, u64, f16, padding, skip, val, oneOf, field}
 use Rattle.bits.specs.Table.{read}
 use Rattle.bits.specs.Extensions.{extensions}
 use Rattle.filter.specs.Gabor.{gabor}

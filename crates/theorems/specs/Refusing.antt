@@ -1,7 +1,7 @@
 -- Demand 1 as one statement: a function ends with an answer or with a refusal of the rules, never with both, and a refusal changes nothing that was
 -- lent.
 -- proofs/Refusing.antt has the law that all functions share, and the files behind it a law for each public function that can refuse, named after it.
-use Prim.Native.Nat.{ℕ, _*_, _/_, _%_, _≤_, _<_}
+use Prim.Native.Nat.{ℕ, _/_, _%_, _≤_, _<_}
 use mathlib.Core.Path.{_≡_}
 use mathlib.Core.Logic.{_⊎_}
 use mathlib.Core.List.{List, [], _∷_}
