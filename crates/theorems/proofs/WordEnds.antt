@@ -41,7 +41,7 @@ use Rattle.c_words.specs.Records.{sectionNumber, sentNumber, numberAnswer, touc
 use Rattle.c_words.specs.Layouts.{layoutAnswer, layoutBy, sectionBy}
 use Rattle.c_words.specs.Contents.{tocStatus, tocAfter, noRoom, roomedReading, Listed}
 use Rattle.c_words.specs.Heading.{Buffers, buffers, HandedOut, HeadRead, recordRoom, noRecord, judgedAll, wordsAfter, signedAfter, floatsAfter}
-use Rattle.theorems.specs.Refusing.{among, rules, Refuses, Ends, Tells, SectionEnds, held, WordEnds, TocLent, ListLent, TocWordEnds, ofFrame, ofIndex, ofFrameRoom, ofIndexRoom, ofLayout, ofLayoutRoom, ofSent, ofSentRoom, ofToc, ofTocOrder, ofTocRoom, ofFacts, ofHeader, ofText}
+use Rattle.theorems.specs.Refusing.{among, rules, Refuses, Ends, Tells, SectionEnds, held, WordEnds, lent, ListLent, TocWordEnds, ofFrame, ofIndex, ofFrameRoom, ofIndexRoom, ofLayout, ofLayoutRoom, ofSent, ofSentRoom, ofToc, ofTocOrder, ofTocRoom, ofFacts, ofHeader, ofText}
 use Rattle.theorems.proofs.Refusing.{holds, ruled, refuses-none, refuses-here, refuses-pick, refuses-more, beside}
 use Rattle.theorems.proofs.GridEnds as grid
 use Rattle.theorems.proofs.SectionEnds as sections
@@ -206,9 +206,6 @@ hingevale-section-in words x y pass before word after g =
     given ofLayoutRoom ofLayoutRoom _ before word after refl refl refl (section-by words x y pass .refuses) g
 
 -- ---- the section entries
-
-abbrev lent : Tables → List ℕ → TocLent
-lent t out = record { tables = t; words = out }
 
 module _ (l : List ℕ) (ok : rules l ≡ true) (needs : Bool) (last : ℕ) (big : last < 2 ^ 56) where
   -- `give_toc`: what is told of an answer, the word holds

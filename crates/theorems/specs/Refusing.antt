@@ -125,6 +125,9 @@ pub record TocLent : Type 0 where
   pub tables : Tables
   pub words : List ℕ
 
+abbrev pub lent : Tables → List ℕ → TocLent
+lent t words = record { tables = t; words = words }
+
 pub record ListLent : Type 0 where
   pub bytes : List ℕ
   pub words : List ℕ
