@@ -49,7 +49,7 @@ use Rattle.c_words.specs.Records.{sectionNumber, sentNumber, numberAnswer, touc
 use Rattle.c_words.specs.Layouts.{layoutAnswer, sectionBy}
 use Rattle.c_words.specs.Contents.{noRoom, roomedReading, Listed}
 use Rattle.c_words.specs.Heading.{Buffers, HeadRead, noRecord}
-use Rattle.theorems.specs.Refusing.{Refuses, Ends, NumberEnds, TouchEnds, RectEnds, SizeEnds, GridEnds, ofFrame, ofIndex, SectionEnds, SentEnds, KindEnds, PlaceEnds, LayoutEnds, ofIndexRoom, ofLayout, ofOrder, ofInverse, ofEntry, ofSent, Tells, ofToc, ofTocOrder, headerSaid, ofFacts, ofHeader, ofFilter, TextEnds, ofText, ofListing, among, rules, Hands, ofBits, ofEnum, ofPadding, ofHalf, WordEnds, lent, ListLent, TocWordEnds, ofFrameRoom, ofLayoutRoom, ofSentRoom, ofTocRoom}
+use Rattle.theorems.specs.Refusing.{Refuses, Ends, NumberEnds, TouchEnds, RectEnds, SizeEnds, GridEnds, ofFrame, ofIndex, SectionEnds, SentEnds, KindEnds, PlaceEnds, LayoutEnds, ofIndexRoom, ofLayout, ofOrder, ofInverse, ofEntry, ofSent, Tells, ofToc, ofTocOrder, headerSaid, ofFacts, ofHeader, ofFilter, TextEnds, ofText, ofListing, among, rules, placed, Hands, ofBits, ofEnum, ofPadding, ofHalf, WordEnds, lent, ListLent, TocWordEnds, ofFrameRoom, ofLayoutRoom, ofSentRoom, ofTocRoom}
 
 pub record EveryFunction : Type 0 where
   -- the geometry of a frame; then with a group or a point
@@ -112,8 +112,8 @@ pub record EveryFunction : Type 0 where
   pub read-bool-if : (s : List ℕ) (c : Cursor) (on : Bool) (d : ℕ) → Hands ofBits s c (field s on bool d c .next)
   pub read-bool : (s : List ℕ) (c : Cursor) → Hands ofBits s c (field s true bool 0 c .next)
   pub zero-pad-to-byte : (s : List ℕ) (c : Cursor) → Hands ofPadding s c (field s true padding 0 c .next)
-  pub refuse-if : (l : List ℕ) → rules l ≡ true → (s : List ℕ) (c : Cursor) (bad : Bool) (number back : ℕ) → among l number ≡ true
-      → Hands l s c (failed bad number back c)
+  pub refuse-if : (l : List ℕ) → rules l ≡ true → (s : List ℕ) (c : Cursor) (bad : Bool) (number back : ℕ)
+      → among l number ≡ true → among placed number ≡ true → Hands l s c (failed bad number back c)
   pub read-u32-if : (s : List ℕ) (c : Cursor) (on : Bool) (k : Choices) (d : ℕ) → Hands ofBits s c (field s on (u32 k) d c .next)
   pub read-u32 : (s : List ℕ) (c : Cursor) (k : Choices) → Hands ofBits s c (field s true (u32 k) 0 c .next)
   pub read-enum-if : (s : List ℕ) (c : Cursor) (on : Bool) (k : Choices) (n d : ℕ) → Hands ofEnum s c (field s on (cases k n) d c .next)

@@ -1,6 +1,5 @@
--- Demand 1 as one statement: a function ends with an answer or with a refusal of the rules, never with both, and a refusal changes nothing that was
--- lent.
--- proofs/Refusing.antt has the law that all functions share, and the files behind it a law for each public function that can refuse, named after it.
+-- What demand 1 asks of a function: it ends with an answer or with a refusal of the rules, never with both, and a refusal changes nothing that was
+-- lent. Functions.antt asks it of each public function that can refuse.
 use Prim.Native.Nat.{ℕ, _/_, _%_, _≤_, _<_}
 use mathlib.Core.Path.{_≡_}
 use mathlib.Core.Logic.{_⊎_}
@@ -9,7 +8,7 @@ use mathlib.Core.Bool.{Bool, true, false, _&&_, _||_}
 use lib.Dec.{eqb, leb}
 use Rattle.bits.specs.declared.Refusal.{Refusal}
 use Rattle.bits.specs.declared.Cursor.{Cursor}
-use Rattle.bits.specs.Refusals.{refusal, none, clear}
+use Rattle.bits.specs.Refusals.{refusal, clear}
 use Rattle.bits.specs.Bits.{bitCount}
 use Rattle.grid.specs.declared.Grid.{Grid}
 use Rattle.grid.specs.declared.Number.{Number}
@@ -32,17 +31,21 @@ abbrev pub among : List ℕ → ℕ → Bool
 among [] n = false
 among (k ∷ more) n = eqb k n || among more n
 
--- whether all are numbers of document 01: 1 to 14
+-- whether all are numbers of the rules: 1 to 14
 abbrev pub rules : List ℕ → Bool
 rules [] = true
 rules (k ∷ more) = (leb 1 k && leb k 14) && rules more
 
--- Nothing is refused (number 0, place 0), or it is with one of the numbers, at a bit place that is no further than the last.
+-- the refusals of what is read, which have the place of a field; all others, and none, have place 0
+abbrev pub placed : List ℕ
+placed = 4 ∷ 5 ∷ 6 ∷ 7 ∷ 12 ∷ []
+
+-- Nothing is refused (number 0), or it is with one of the numbers; the bit place is no further than the last.
 pub record Refuses (numbers : List ℕ) (last : ℕ) (r : Refusal) : Type 0 where
   pub ruled : rules numbers ≡ true
   pub listed : among (0 ∷ numbers) (r .number) ≡ true
   pub inside : r .place ≤ last
-  pub nothing : r .number ≡ 0 → r ≡ none
+  pub elsewhere : among placed (r .number) ≡ false → r .place ≡ 0
 
 -- A function's end: its refusal, and what it said. Beside a refusal stands no answer: zeros alone, and what was lent as it was.
 pub record Ends {A : Type 0} (numbers : List ℕ) (last : ℕ) (r : Refusal) (beside said : A) : Type 0 where
