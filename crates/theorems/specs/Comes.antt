@@ -1,11 +1,11 @@
 -- No list of numbers is longer than it has to be: of each number there is an input on which the function refuses with it.
 use Prim.Native.Nat.{ℕ}
 use mathlib.Core.Path.{_≡_}
-use mathlib.Core.Bool.{true}
+use mathlib.Core.Bool.{Bool, true}
 use mathlib.Core.List.{List, [], _∷_}
 use lib.ListN.{length}
 use Rattle.bits.specs.declared.Refusal.{Refusal}
-use Rattle.bits.specs.Refusals.{refusal, none, start}
+use Rattle.bits.specs.Refusals.{pick, refusal, none, start}
 use Rattle.bits.specs.Codec.{Codec, u, bool, u32, cases, u64, f16, padding, skip, val, oneOf, field}
 use Rattle.bits.specs.Table.{read}
 use Rattle.bits.specs.Extensions.{extensions}
@@ -111,6 +111,9 @@ pub record EveryNumber : Type 0 where
   -- the C functions: what the status word is of, with the lent words
   pub no-room : Comes (λ (x : ℕ × Frame). noRoom (x .0) (x .1)) ofTocRoom
   pub no-record : Comes (λ (x : ℕ × Facts). noRecord (x .0) (x .1)) ofFacts
+  pub section-named : Comes (λ (f : Frame). sectionOfNumbers f 5 0 0 .refusal) ofIndex
+  pub section-by : Comes (λ (words : List ℕ). sectionBy words 0 0 0 .refusal) ofLayoutRoom
+  pub hingevale-list : Comes (λ (x : Bool × List ℕ × List ℕ). pick (x .0) (refusal 3 0) (fitted (x .1) (x .2))) ofText
   pub hingevale-measure : Comes (λ (x : Lent). refusalFor (gridAnswer (gridOf (x .0))) (x .1)) ofFrameRoom
   pub hingevale-sample-width : Comes (λ (x : Lent). refusalFor (numberAnswer (sampled (x .0) (x .0 .width) 1)) (x .1)) ofFrameRoom
   pub hingevale-sample-height : Comes (λ (x : Lent). refusalFor (numberAnswer (sampled (x .0) (x .0 .height) 1)) (x .1)) ofFrameRoom
