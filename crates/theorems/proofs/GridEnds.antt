@@ -14,7 +14,7 @@ use Rattle.grid.specs.declared.Rect.{Rect}
 use Rattle.grid.specs.Measured.{goodRecord, zeroSize, tooMany, laid, refusedGrid, gridOf}
 use Rattle.grid.specs.Groups.{has, judge, numbered, touching, placed, sampled, told, rectOf, rectFor, sizeOf, lfIndexOf, indexFor, touchFor}
 use Rattle.theorems.specs.Refusing.{Refuses, Ends, NumberEnds, TouchEnds, RectEnds, SizeEnds, GridEnds, ofFrame, ofIndex}
-use Rattle.theorems.proofs.Refusing.{refuses-none, refuses-with, refuses-pick, refuses-more, beside}
+use Rattle.theorems.proofs.Refusing.{refuses-none, refuses-here, refuses-pick, refuses-more, beside}
 
 abbrev Fine : Grid → Type 0
 Fine g = Refuses ofFrame 0 (g .refusal)
@@ -25,9 +25,9 @@ grid-refuses f =
     let counted : Grid = pick (tooMany f) (refusedGrid 10) (laid f) in
     let sized : Grid = pick (zeroSize f) (refusedGrid 9) counted in
     of-both Fine (goodRecord f) sized (refusedGrid 8)
-    (of-both Fine (zeroSize f) (refusedGrid 9) counted (refuses-with ofFrame 0 9 0 refl refl (omega arith))
-    (of-both Fine (tooMany f) (refusedGrid 10) (laid f) (refuses-with ofFrame 0 10 0 refl refl (omega arith)) (refuses-none ofFrame 0 refl)))
-    (refuses-with ofFrame 0 8 0 refl refl (omega arith))
+    (of-both Fine (zeroSize f) (refusedGrid 9) counted (refuses-here ofFrame 9 refl refl)
+    (of-both Fine (tooMany f) (refusedGrid 10) (laid f) (refuses-here ofFrame 10 refl refl) (refuses-none ofFrame 0 refl)))
+    (refuses-here ofFrame 8 refl refl)
 
 ways-out : (a z m : Bool) (l : Grid) → l .refusal ≡ none
     → (pick a (pick z (refusedGrid 9) (pick m (refusedGrid 10) l)) (refusedGrid 8) .refusal .number ≡ 0 → ⊥)
@@ -45,14 +45,16 @@ unfolding gridOf laid
 refused f h = ways-out (goodRecord f) (zeroSize f) (tooMany f) (laid f) refl h
 
 -- a part of the grid that is zero beside a refusal
-part : {A : Type 0} (f : Frame) (of : Grid → A) (zero : A) → ((n : ℕ) → of (refusedGrid n) ≡ zero) → Ends ofFrame 0 (gridOf f .refusal) zero (of (gridOf f))
+part : {A : Type 0} (f : Frame) (of : Grid → A) (zero : A) → ((n : ℕ) → of (refusedGrid n) ≡ zero)
+    → Ends ofFrame 0 (gridOf f .refusal) zero (of (gridOf f))
 part f of zero h = record { refuses = grid-refuses f; either = λ some. ap of (refused f some) ∙ h (gridOf f .refusal .number) }
 
 pub measure : (f : Frame) → GridEnds ofFrame (gridOf f)
 unfolding refusedGrid
 measure f =
     part f
-    (λ (g : Grid). g .width ∷ g .height ∷ g .side ∷ g .«lf_side» ∷ g .columns ∷ g .rows ∷ g .«lf_columns» ∷ g .«lf_rows» ∷ g .groups ∷ g .«lf_groups» ∷ g .sections ∷ []) _
+    (λ (g : Grid).
+    g .width ∷ g .height ∷ g .side ∷ g .«lf_side» ∷ g .columns ∷ g .rows ∷ g .«lf_columns» ∷ g .«lf_rows» ∷ g .groups ∷ g .«lf_groups» ∷ g .sections ∷ []) _
     (λ n. refl)
 
 pub sample-width : (f : Frame) (by : ℕ) → NumberEnds ofFrame (sampled f (f .width) by)
@@ -104,7 +106,7 @@ pub judged : (f : Frame) (known : Bool) → Refuses ofIndex 0 (judge (gridOf f) 
 unfolding judge
 judged f known =
     refuses-pick ofIndex 0 (eqb (gridOf f .refusal .number) 0) (pick known none (refusal 14 0)) (gridOf f .refusal)
-    (refuses-pick ofIndex 0 known none (refusal 14 0) (refuses-none ofIndex 0 refl) (refuses-with ofIndex 0 14 0 refl refl (omega arith)))
+    (refuses-pick ofIndex 0 known none (refusal 14 0) (refuses-none ofIndex 0 refl) (refuses-here ofIndex 14 refl refl))
     (refuses-more ofIndex ofFrame 0 0 (gridOf f .refusal) refl refl (omega arith) (grid-refuses f))
 
 -- on any grid, the grid's own or 14
@@ -122,7 +124,8 @@ rect-ends f side i =
       either =
           λ some.
           ap (λ (r : Rect). r .left ∷ r .top ∷ r .width ∷ r .height ∷ [])
-          (beside (judge (gridOf f) (has (gridOf f) side i)) (rectOf (gridOf f .width) (gridOf f .height) side i) (record { left = 0; top = 0; width = 0; height = 0 }) some);
+          (beside (judge (gridOf f) (has (gridOf f) side i)) (rectOf (gridOf f .width) (gridOf f .height) side i)
+          (record { left = 0; top = 0; width = 0; height = 0 }) some);
     }
 
 pub group-rect : (f : Frame) (i : ℕ) → RectEnds ofIndex (rectFor (gridOf f) (gridOf f .side) i)
@@ -139,7 +142,8 @@ size-ends f side i =
       either =
           λ some.
           ap (λ (r : Rect). r .width ∷ r .height ∷ [])
-          (beside (judge (gridOf f) (has (gridOf f) side i)) (rectOf (gridOf f .width) (gridOf f .height) side i) (record { left = 0; top = 0; width = 0; height = 0 }) some);
+          (beside (judge (gridOf f) (has (gridOf f) side i)) (rectOf (gridOf f .width) (gridOf f .height) side i)
+          (record { left = 0; top = 0; width = 0; height = 0 }) some);
     }
 
 pub group-size-for : (f : Frame) (i : ℕ) → SizeEnds ofIndex (sizeOf (rectFor (gridOf f) (gridOf f .side) i))
@@ -151,7 +155,11 @@ lf-group-size-for f i = size-ends f (gridOf f .«lf_side») i
 pub lf-group-idx-from-group-idx : (f : Frame) (i : ℕ) → NumberEnds ofIndex (lfIndexOf (gridOf f) i)
 unfolding lfIndexOf numbered
 lf-group-idx-from-group-idx f i =
-    record { refuses = judged f (has (gridOf f) (gridOf f .side) i); either = λ some. beside (judge (gridOf f) (has (gridOf f) (gridOf f .side) i)) _ 0 some }
+    record {
+      refuses = judged f (has (gridOf f) (gridOf f .side) i);
+      either = λ some. beside
+          (judge (gridOf f) (has (gridOf f) (gridOf f .side) i)) _ 0 some;
+    }
 
 pub group-idx-from-coord : (f : Frame) (x y : ℕ) → NumberEnds ofIndex (indexFor (gridOf f) x y)
 unfolding indexFor numbered

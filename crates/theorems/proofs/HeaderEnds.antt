@@ -1,4 +1,5 @@
--- The header: 2, 1, 3, then 4, 5, 6 and 7 in reading order, at a place within the input; beside a refusal the zero record, and the lent buffers as they were.
+-- The header: 2, 1, 3, then 4, 5, 6 and 7 in reading order, at a place within the input; beside a refusal the zero record, and the lent buffers as
+-- they were.
 use Prim.Native.Nat.{ℕ}
 use native.Mathlib.Omega.{arith}
 use mathlib.Core.Path.{_≡_, refl, _∙_, ap}
@@ -27,7 +28,7 @@ use Rattle.header.specs.Record.{numbersOf, zeroHeader}
 use Rattle.header.specs.Entry.{badFacts, noRoom, judged, stands, refusalOf, HeaderTold, told, refusedHeader, answered, bufferAfter, Headed}
 use Rattle.order.proofs.Entries.{split}
 use Rattle.theorems.specs.Refusing.{Refuses, Ends, headerSaid, ofFacts, ofHeader, ofFilter}
-use Rattle.theorems.proofs.Refusing.{holds, refuses-none, refuses-with, refuses-pick, refuses-more}
+use Rattle.theorems.proofs.Refusing.{holds, refuses-none, refuses-here, refuses-pick, refuses-more}
 use Rattle.theorems.proofs.Readers.{Own, ownOf, own-bind, own-within, own-inside, own-times, own-extensions, own-more, read-refuses}
 use Rattle.theorems.proofs.ReaderEnds.{own-restoration}
 
@@ -37,9 +38,9 @@ pub judge-header : (n : ℕ) (f : Facts) (name upsampling blending : ℕ) → Re
 unfolding judged
 judge-header n f name upsampling blending =
     let last : Refusal = pick (noRoom f name upsampling blending) (refusal 3 0) none in
-    refuses-pick ofFacts 0 (ltb 16777216 n) (refusal 2 0) (pick (badFacts f) (refusal 1 0) last) (refuses-with ofFacts 0 2 0 refl refl (omega arith))
-    (refuses-pick ofFacts 0 (badFacts f) (refusal 1 0) last (refuses-with ofFacts 0 1 0 refl refl (omega arith))
-    (refuses-pick ofFacts 0 (noRoom f name upsampling blending) (refusal 3 0) none (refuses-with ofFacts 0 3 0 refl refl (omega arith)) (refuses-none ofFacts 0 refl)))
+    refuses-pick ofFacts 0 (ltb 16777216 n) (refusal 2 0) (pick (badFacts f) (refusal 1 0) last) (refuses-here ofFacts 2 refl refl)
+    (refuses-pick ofFacts 0 (badFacts f) (refusal 1 0) last (refuses-here ofFacts 1 refl refl)
+    (refuses-pick ofFacts 0 (noRoom f name upsampling blending) (refusal 3 0) none (refuses-here ofFacts 3 refl refl) (refuses-none ofFacts 0 refl)))
 
 -- ---- the header's tables
 
@@ -48,7 +49,8 @@ unfolding opening Own
 own-opening f =
     (refl, λ all. (refl, λ kind. (refl, λ encoding. (refl, λ flags. (refl, λ ycbcr. (refl, λ j0. (refl, λ j1. (refl, λ j2. (refl, λ up. tt)))))))))
 
-own-array : {R : Type 0} (k : Codec) (limit count d : ℕ) (col : R → ℕ → ℕ) → holds ofHeader (ownOf k) ≡ true → Own ofHeader (array k limit count d col)
+own-array : {R : Type 0} (k : Codec) (limit count d : ℕ) (col : R → ℕ → ℕ) → holds ofHeader (ownOf k) ≡ true
+    → Own ofHeader (array k limit count d col)
 unfolding element Own
 own-array k limit count d col h = own-times ofHeader count 0 (element k limit d col) (λ i. (h, λ v. tt))
 
@@ -121,7 +123,8 @@ module _ (f : Facts) (s : List ℕ) (before : Refusal) (own : Refuses ofFacts 0 
   pub answered-refuses : Refuses ofHeader (bitCount s) (answered f before (stands f s) .refusal)
   unfolding answered refusedHeader
   answered-refuses =
-      of-both (λ (a : HeaderTold). Refuses ofHeader (bitCount s) (a .refusal)) (eqb (refusalOf before (stands f s) .number) 0) _ (refusedHeader (refusalOf before (stands f s)))
+      of-both (λ (a : HeaderTold). Refuses ofHeader (bitCount s) (a .refusal)) (eqb (refusalOf before (stands f s) .number) 0) _
+      (refusedHeader (refusalOf before (stands f s)))
       (refuses-none ofHeader (bitCount s) refl) first
 
   module _ (some : answered f before (stands f s) .refusal .number ≡ 0 → ⊥) where
@@ -138,7 +141,8 @@ module _ (f : Facts) (s : List ℕ) (before : Refusal) (own : Refuses ofFacts 0 
 
 pub read-frame-header : (f : Facts) (s : List ℕ) (r : HeaderAnswer) (name name' upsampling upsampling' blending blending' : List ℕ)
     → Headed f s r name name' upsampling upsampling' blending blending'
-    → Ends ofHeader (bitCount s) (r .refusal) (headerSaid zeroHeader 0 name upsampling blending) (headerSaid (numbersOf (r .header)) (r .end) name' upsampling' blending')
+    → Ends ofHeader (bitCount s) (r .refusal) (headerSaid zeroHeader 0 name upsampling blending)
+    (headerSaid (numbersOf (r .header)) (r .end) name' upsampling' blending')
 unfolding refusedHeader
 read-frame-header f s r name name' upsampling upsampling' blending blending' h =
     let before : Refusal = judged (length s) f (length name) (length upsampling) (length blending) in

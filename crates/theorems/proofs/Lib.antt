@@ -15,6 +15,8 @@ pub mod HeaderEnds
 pub mod TocEnds
 pub mod ListingEnds
 pub mod WordEnds
+pub mod Functions
+pub mod Comes
 pub mod Status
 pub mod Numerals
 pub mod Once

@@ -18,11 +18,12 @@ use Rattle.listing.specs.Put.{fitted, answerBy, Texted}
 use Rattle.listing.specs.Text.{refusedText, orderText}
 use Rattle.listing.specs.Listed.{listing, listingRefusal}
 use Rattle.theorems.specs.Refusing.{Refuses, TextEnds, ofFrame, ofOrder, ofText, ofListing}
-use Rattle.theorems.proofs.Refusing.{refuses-none, refuses-with, refuses-pick, refuses-more, beside}
+use Rattle.theorems.proofs.Refusing.{refuses-none, refuses-here, refuses-pick, refuses-more, beside}
 use Rattle.theorems.proofs.GridEnds.{grid-refuses}
 use Rattle.theorems.proofs.SectionEnds.{check-order}
 
-texted : (l : List ℕ) (r : Refusal) (text before : List ℕ) (a : TextAnswer) (after : List ℕ) → Refuses l 0 r → Texted r text before a after → TextEnds l a before after
+texted : (l : List ℕ) (r : Refusal) (text before : List ℕ) (a : TextAnswer) (after : List ℕ) → Refuses l 0 r → Texted r text before a after
+    → TextEnds l a before after
 unfolding answerBy
 texted l r text before a after d h =
     let is : a .refusal ≡ r = ap (λ (x : TextAnswer). x .refusal) (h .answer) in
@@ -37,17 +38,21 @@ texted l r text before a after d h =
     }
 
 pub fits : (text out : List ℕ) → Refuses ofText 0 (fitted text out)
-fits text out = refuses-pick ofText 0 (leb (length text) (length out)) none (refusal 3 0) (refuses-none ofText 0 refl) (refuses-with ofText 0 3 0 refl refl (omega arith))
+fits text out =
+    refuses-pick ofText 0 (leb (length text) (length out)) none (refusal 3 0) (refuses-none ofText 0 refl) (refuses-here ofText 3 refl refl)
 
 -- `list_frame` and every other function that writes a text: whatever the text is
-pub list-frame : (text before : List ℕ) (a : TextAnswer) (after : List ℕ) → Texted (fitted text before) text before a after → TextEnds ofText a before after
+pub list-frame : (text before : List ℕ) (a : TextAnswer) (after : List ℕ) → Texted (fitted text before) text before a after
+    → TextEnds ofText a before after
 list-frame text before a after h = texted ofText (fitted text before) text before a after (fits text before) h
 
-pub write-refused : (r : Refusal) (before : List ℕ) (a : TextAnswer) (after : List ℕ) → Texted (fitted (refusedText r) before) (refusedText r) before a after
+pub write-refused : (r : Refusal) (before : List ℕ) (a : TextAnswer) (after : List ℕ)
+    → Texted (fitted (refusedText r) before) (refusedText r) before a after
     → TextEnds ofText a before after
 write-refused r before a after h = list-frame (refusedText r) before a after h
 
-pub write-order-needed : (place : ℕ) (before : List ℕ) (a : TextAnswer) (after : List ℕ) → Texted (fitted (orderText place) before) (orderText place) before a after
+pub write-order-needed : (place : ℕ) (before : List ℕ) (a : TextAnswer) (after : List ℕ)
+    → Texted (fitted (orderText place) before) (orderText place) before a after
     → TextEnds ofText a before after
 write-order-needed place before a after h = list-frame (orderText place) before a after h
 
@@ -55,13 +60,15 @@ listing-refuses : (f : Frame) (offsets sizes order out : List ℕ) → Refuses o
 unfolding listingRefusal
 listing-refuses f offsets sizes order out =
     let g : Grid = gridOf f in
-    let room : Bool = (leb (g .sections) (length offsets) && leb (g .sections) (length sizes)) && leb (length (listing f offsets sizes order)) (length out) in
+    let room : Bool =
+    (leb (g .sections) (length offsets) && leb (g .sections) (length sizes)) && leb (length (listing f offsets sizes order)) (length out) in
     refuses-pick ofListing 0 (eqb (g .refusal .number) 0) (pick room (checked (g .sections) order) (refusal 3 0)) (g .refusal)
     (refuses-pick ofListing 0 room (checked (g .sections) order) (refusal 3 0)
     (refuses-more ofListing ofOrder 0 0 _ refl refl (omega arith) (check-order (g .sections) order))
-    (refuses-with ofListing 0 3 0 refl refl (omega arith)))
+    (refuses-here ofListing 3 refl refl))
     (refuses-more ofListing ofFrame 0 0 (g .refusal) refl refl (omega arith) (grid-refuses f))
 
 pub write-listing : (f : Frame) (offsets sizes order before : List ℕ) (a : TextAnswer) (after : List ℕ)
     → Texted (listingRefusal f offsets sizes order before) (listing f offsets sizes order) before a after → TextEnds ofListing a before after
-write-listing f offsets sizes order before a after h = texted ofListing _ (listing f offsets sizes order) before a after (listing-refuses f offsets sizes order before) h
+write-listing f offsets sizes order before a after h =
+    texted ofListing _ (listing f offsets sizes order) before a after (listing-refuses f offsets sizes order before) h

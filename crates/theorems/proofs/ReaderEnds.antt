@@ -23,7 +23,7 @@ use Rattle.filter.specs.Values.{float, floats}
 use Rattle.filter.specs.Gabor.{channel, gabor, gaborRead}
 use Rattle.filter.specs.Epf.{sharp, scale, sigma, epf, epfRead}
 use Rattle.filter.specs.Filter.{restoration, filterRead}
-use Rattle.theorems.specs.Refusing.{among, rules, Refuses, Hands, ofBits, ofEnum, ofPadding, ofHalf, ofFilter}
+use Rattle.theorems.specs.Refusing.{among, rules, placed, Refuses, Hands, ofBits, ofEnum, ofPadding, ofHalf, ofFilter}
 use Rattle.theorems.proofs.Refusing.{refuses-none, refuses-with}
 use Rattle.theorems.proofs.Readers.{Own, own-bind, own-inside, own-times, own-extensions, own-more, read-hands, field-hands}
 
@@ -51,23 +51,25 @@ padded s p i =
     let n : ℕ = (8 - p % 8) % 8 in
     rw (padding-there s p i)
     (of-both (λ (t : Steps). Refuses (12 ∷ []) (bitCount s) (run t s p (p + n) .next .fault)) (eqb (bitsAt s p n) 0) (gives 0) (refuses 12)
-    (refuses-none (12 ∷ []) (bitCount s) refl) (refuses-with (12 ∷ []) (bitCount s) 12 p refl refl i))
+    (refuses-none (12 ∷ []) (bitCount s) refl) (refuses-with (12 ∷ []) (bitCount s) 12 p refl refl refl i))
 
 pub zero-pad-within : (s : List ℕ) (c : Cursor) → c .at ≤ bitCount s
     → (field s true padding 0 c .next .fault ≡ c .fault) ⊎ Refuses (12 ∷ []) (bitCount s) (field s true padding 0 c .next .fault)
 unfolding field
 zero-pad-within s c i =
-    of-both (λ (r : Field). (r .next .fault ≡ c .fault) ⊎ Refuses (12 ∷ []) (bitCount s) (r .next .fault)) (true && clear c) (run (steps padding (c .at)) s (c .at) (c .at)) (record { value = 0; next = c })
+    of-both (λ (r : Field). (r .next .fault ≡ c .fault) ⊎ Refuses (12 ∷ []) (bitCount s) (r .next .fault)) (true && clear c)
+    (run (steps padding (c .at)) s (c .at) (c .at)) (record { value = 0; next = c })
     (inr (padded s (c .at) i)) (inl refl)
 
 -- the caller's number
-pub refuse-if : (l : List ℕ) → rules l ≡ true → (s : List ℕ) (c : Cursor) (bad : Bool) (number back : ℕ) → among l number ≡ true → Hands l s c (failed bad number back c)
+pub refuse-if : (l : List ℕ) → rules l ≡ true → (s : List ℕ) (c : Cursor) (bad : Bool) (number back : ℕ)
+    → among l number ≡ true → among placed number ≡ true → Hands l s c (failed bad number back c)
 unfolding read Own
-refuse-if l ok s c bad number back h = read-hands l ok {R = ℕ} {A = ℕ} s (fails bad number back (ends 0)) (h, tt) c
+refuse-if l ok s c bad number back h p = read-hands l ok {R = ℕ} {A = ℕ} s (fails bad number back (ends 0)) (h, p, tt) c
 
 pub cut-refuses : (s : List ℕ) (p end : ℕ) → Refuses ofBits p (cut s p end)
 unfolding cut
-cut-refuses s p end = refuses-with ofBits p 4 p refl refl (le-refl p)
+cut-refuses s p end = refuses-with ofBits p 4 p refl refl refl (le-refl p)
 
 pub read-u32-if : (s : List ℕ) (c : Cursor) (on : Bool) (k : Choices) (d : ℕ) → Hands ofBits s c (field s on (u32 k) d c .next)
 read-u32-if s c on k d = field-hands ofBits refl s on (u32 k) d c refl
@@ -97,7 +99,7 @@ read-extensions-if s c on = read-hands ofBits refl s (extensions on) (own-extens
 
 own-channel : (on : Bool) (i : ℕ) → Own ofFilter (channel on i)
 unfolding channel Own
-own-channel on i = (refl, λ a. (refl, λ b. (refl, tt)))
+own-channel on i = (refl, λ a. (refl, λ b. (refl, refl, tt)))
 
 own-gabor : (on : Bool) → Own ofFilter (gabor on)
 unfolding gabor Own
@@ -169,5 +171,6 @@ read-gabor-if s c on = read-hands ofFilter refl s (gabor on) (own-gabor on) c
 pub read-epf-if : (s : List ℕ) (c : Cursor) (on modular : Bool) → Hands ofHalf s c (epfRead (read (epf on modular) s c) .next)
 read-epf-if s c on modular = read-hands ofHalf refl s (epf on modular) (own-epf on modular) c
 
-pub read-restoration-filter-if : (s : List ℕ) (c : Cursor) (on modular : Bool) → Hands ofFilter s c (filterRead (read (restoration on modular) s c) .next)
+pub read-restoration-filter-if : (s : List ℕ) (c : Cursor) (on modular : Bool)
+    → Hands ofFilter s c (filterRead (read (restoration on modular) s c) .next)
 read-restoration-filter-if s c on modular = read-hands ofFilter refl s (restoration on modular) (own-restoration on modular) c

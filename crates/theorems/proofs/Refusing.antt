@@ -1,7 +1,8 @@
 -- What every refusal of a function comes from: none, one of its numbers, or one of two judgments by a test. A list holds what a shorter one holds.
 use Prim.Native.Nat.{ℕ, _≤_}
+use native.Mathlib.Nat.{le-refl}
 use native.Mathlib.Omega.{arith}
-use mathlib.Core.Path.{_≡_, refl}
+use mathlib.Core.Path.{_≡_, refl, sym, _∙_}
 use mathlib.Core.List.{List, [], _∷_}
 use mathlib.Core.Bool.{Bool, true, false, _&&_, _||_, false≢true}
 use lib.Dec.{eqb}
@@ -12,7 +13,7 @@ use Rattle.bits.proofs.Reading.{picked}
 use Rattle.bits.proofs.Numbered.{of-both}
 use Rattle.order.proofs.Entries.{split}
 use Rattle.grid.proofs.Accepted.{and-parts}
-use Rattle.theorems.specs.Refusing.{among, rules, Refuses}
+use Rattle.theorems.specs.Refusing.{among, rules, placed, Refuses}
 
 -- whether a list holds all of another
 abbrev pub holds : List ℕ → List ℕ → Bool
@@ -38,30 +39,37 @@ among-more l (k ∷ more) n e h =
     (λ t. among-more l more n (parts .1) (rw t at h))
 
 pub refuses-none : (numbers : List ℕ) (last : ℕ) → rules numbers ≡ true → Refuses numbers last none
-refuses-none numbers last ok = record { ruled = ok; listed = refl; inside = omega arith; nothing = λ z. refl }
+refuses-none numbers last ok = record { ruled = ok; listed = refl; inside = omega arith; elsewhere = λ e. refl }
 
 or-right : (a b : Bool) → b ≡ true → (a || b) ≡ true
 or-right true b e = refl
 or-right false b e = e
 
-pub refuses-with : (numbers : List ℕ) (last n place : ℕ) → rules numbers ≡ true → among numbers n ≡ true → place ≤ last → Refuses numbers last (refusal n place)
-refuses-with numbers last n place ok h l =
-    let low = ruled numbers n ok h in
-    record { ruled = ok; listed = or-right (eqb 0 n) (among numbers n) h; inside = l; nothing = λ z. absurd (omega (arith, low .0, z)) }
+pub refuses-with : (numbers : List ℕ) (last n place : ℕ) → rules numbers ≡ true → among numbers n ≡ true → among placed n ≡ true → place ≤ last
+    → Refuses numbers last (refusal n place)
+refuses-with numbers last n place ok h p l =
+    record { ruled = ok; listed = or-right (eqb 0 n) (among numbers n) h; inside = l; elsewhere = λ e. absurd (false≢true (sym e ∙ p)) }
+
+-- at place 0
+pub refuses-here : (numbers : List ℕ) (n : ℕ) → rules numbers ≡ true → among numbers n ≡ true → Refuses numbers 0 (refusal n 0)
+refuses-here numbers n ok h = record { ruled = ok; listed = or-right (eqb 0 n) (among numbers n) h; inside = le-refl 0; elsewhere = λ e. refl }
 
 -- The law: one of two judgments by a test
-pub refuses-pick : (numbers : List ℕ) (last : ℕ) (b : Bool) (x y : Refusal) → Refuses numbers last x → Refuses numbers last y → Refuses numbers last (pick b x y)
+pub refuses-pick : (numbers : List ℕ) (last : ℕ) (b : Bool) (x y : Refusal) → Refuses numbers last x → Refuses numbers last y
+    → Refuses numbers last (pick b x y)
 refuses-pick numbers last b x y h k = of-both (Refuses numbers last) b x y h k
 
 -- and a list that holds more
-pub refuses-more : (l more : List ℕ) (last end : ℕ) (r : Refusal) → rules l ≡ true → holds l more ≡ true → last ≤ end → Refuses more last r → Refuses l end r
+pub refuses-more : (l more : List ℕ) (last end : ℕ) (r : Refusal) → rules l ≡ true → holds l more ≡ true → last ≤ end → Refuses more last r
+    → Refuses l end r
 refuses-more l more last end r ok h k d =
     record {
       ruled = ok;
       listed =
-          split (eqb 0 (r .number)) (λ t. rw t) (λ t. or-right (eqb 0 (r .number)) (among l (r .number)) (among-more l more (r .number) h (rw t at (d .listed))));
+          split (eqb 0 (r .number)) (λ t. rw t) (λ t. or-right (eqb 0 (r .number)) (among l (r .number))
+          (among-more l more (r .number) h (rw t at (d .listed))));
       inside = omega (arith, d .inside);
-      nothing = d .nothing;
+      elsewhere = d .elsewhere;
     }
 
 -- beside a refusal

@@ -25,7 +25,7 @@ use Rattle.sections.specs.Lookups.{hasSample, sectionOfSample, placeRefusal, pl
 use Rattle.layout.specs.declared.Layout.{Layout}
 use Rattle.layout.specs.Layouts.{laidOut, nowhere, layoutOf, hasIn, numberIn, groupIn, notIn, sectionIn}
 use Rattle.theorems.specs.Refusing.{Refuses, Ends, SectionEnds, SentEnds, KindEnds, PlaceEnds, LayoutEnds, ofFrame, ofIndex, ofIndexRoom, ofLayout, ofOrder, ofInverse, ofEntry, ofSent}
-use Rattle.theorems.proofs.Refusing.{refuses-none, refuses-with, refuses-pick, refuses-more, beside}
+use Rattle.theorems.proofs.Refusing.{refuses-none, refuses-here, refuses-pick, refuses-more, beside}
 use Rattle.theorems.proofs.GridEnds.{grid-refuses, judged}
 
 -- ---- orders
@@ -33,25 +33,33 @@ use Rattle.theorems.proofs.GridEnds.{grid-refuses, judged}
 pub check-order : (count : ℕ) (l : List ℕ) → Refuses ofOrder 0 (checked count l)
 unfolding checked
 check-order count l =
-    refuses-pick ofOrder 0 (ltb 65536 count) (refusal 10 0) (pick (isOrder count l) none (refusal 13 0)) (refuses-with ofOrder 0 10 0 refl refl (omega arith))
-    (refuses-pick ofOrder 0 (isOrder count l) none (refusal 13 0) (refuses-none ofOrder 0 refl) (refuses-with ofOrder 0 13 0 refl refl (omega arith)))
+    refuses-pick ofOrder 0 (ltb 65536 count) (refusal 10 0) (pick (isOrder count l) none (refusal 13 0)) (refuses-here ofOrder 10 refl refl)
+    (refuses-pick ofOrder 0 (isOrder count l) none (refusal 13 0) (refuses-none ofOrder 0 refl) (refuses-here ofOrder 13 refl refl))
 
 looked-up : (table : List ℕ) (count i : ℕ) → Refuses ofEntry 0 (lookedUp table count i)
 unfolding lookedUp
 looked-up table count i =
     refuses-pick ofEntry 0 (eqb (checked count table .number) 0) (pick (ltb i count) none (refusal 14 0)) (checked count table)
-    (refuses-pick ofEntry 0 (ltb i count) none (refusal 14 0) (refuses-none ofEntry 0 refl) (refuses-with ofEntry 0 14 0 refl refl (omega arith)))
+    (refuses-pick ofEntry 0 (ltb i count) none (refusal 14 0) (refuses-none ofEntry 0 refl) (refuses-here ofEntry 14 refl refl))
     (refuses-more ofEntry ofOrder 0 0 (checked count table) refl refl (omega arith) (check-order count table))
 
 pub sent-of : (order : List ℕ) (count : ℕ) (section : SectionNumber) → SentEnds ofEntry (sentOf order count section)
 unfolding sentOf entryAt
 sent-of order count section =
-    record { refuses = looked-up order count (section .0); either = λ some. beside (lookedUp order count (section .0)) (getD order (section .0) 0) 0 some }
+    record {
+      refuses = looked-up order count (section .0);
+      either = λ some. beside (lookedUp order count (section .0))
+          (getD order (section .0) 0) 0 some;
+    }
 
 pub section-of : (inverse : List ℕ) (count : ℕ) (sent : SentNumber) → SectionEnds ofEntry (sectionOf inverse count sent)
 unfolding sectionOf entryAt
 section-of inverse count sent =
-    record { refuses = looked-up inverse count (sent .0); either = λ some. beside (lookedUp inverse count (sent .0)) (getD inverse (sent .0) 0) 0 some }
+    record {
+      refuses = looked-up inverse count (sent .0);
+      either = λ some. beside (lookedUp inverse count (sent .0))
+          (getD inverse (sent .0) 0) 0 some;
+    }
 
 -- the table stays as it was
 pub invert : (count : ℕ) (order table : List ℕ) → Ends ofInverse 0 (inverted count order table) table (inverseAfter count order table)
@@ -60,8 +68,8 @@ invert count order table =
     let room : Refusal = pick (ltb (length table) count) (refusal 3 0) (checked count order) in
     record {
       refuses =
-          refuses-pick ofInverse 0 (ltb 65536 count) (refusal 10 0) room (refuses-with ofInverse 0 10 0 refl refl (omega arith))
-          (refuses-pick ofInverse 0 (ltb (length table) count) (refusal 3 0) (checked count order) (refuses-with ofInverse 0 3 0 refl refl (omega arith))
+          refuses-pick ofInverse 0 (ltb 65536 count) (refusal 10 0) room (refuses-here ofInverse 10 refl refl)
+          (refuses-pick ofInverse 0 (ltb (length table) count) (refusal 3 0) (checked count order) (refuses-here ofInverse 3 refl refl)
           (refuses-more ofInverse ofOrder 0 0 (checked count order) refl refl (omega arith) (check-order count order)));
       either = λ some. beside (pick (ltb 65536 count) (refusal 10 0) room) _ table some;
     }
@@ -104,7 +112,7 @@ section-at f offsets sizes section =
           refuses-pick ofIndexRoom 0 (eqb (g .refusal .number) 0) last (g .refusal)
           (refuses-pick ofIndexRoom 0 room (judge g (ltb (section .0) (g .sections))) (refusal 3 0)
           (refuses-more ofIndexRoom ofIndex 0 0 _ refl refl (omega arith) (judged f (ltb (section .0) (g .sections))))
-          (refuses-with ofIndexRoom 0 3 0 refl refl (omega arith)))
+          (refuses-here ofIndexRoom 3 refl refl))
           (refuses-more ofIndexRoom ofFrame 0 0 (g .refusal) refl refl (omega arith) (grid-refuses f));
       either =
           λ some.
@@ -116,15 +124,25 @@ section-at f offsets sizes section =
 pub sent-of-section : (f : Frame) (order : List ℕ) (section : SectionNumber) → SentEnds ofSent (sentOfSection f order section)
 unfolding sentOfSection
 sent-of-section f order section =
-    of-both (SentEnds ofSent) (eqb (gridOf f .refusal .number) 0) (sentOf order (gridOf f .sections) section) (record { sent = record { 0 = 0 }; refusal = gridOf f .refusal })
-    (let own = sent-of order (gridOf f .sections) section in record { refuses = refuses-more ofSent ofEntry 0 0 _ refl refl (omega arith) (own .refuses); either = own .either })
+    of-both (SentEnds ofSent) (eqb (gridOf f .refusal .number) 0) (sentOf order (gridOf f .sections) section)
+    (record { sent = record { 0 = 0 }; refusal = gridOf f .refusal })
+    (let own = sent-of order (gridOf f .sections) section in record {
+      refuses = refuses-more ofSent ofEntry 0 0 _ refl refl (omega arith)
+          (own .refuses);
+      either = own .either;
+    })
     (record { refuses = refuses-more ofSent ofFrame 0 0 (gridOf f .refusal) refl refl (omega arith) (grid-refuses f); either = λ some. refl })
 
 pub section-of-sent : (f : Frame) (inverse : List ℕ) (sent : SentNumber) → SectionEnds ofSent (sectionOfSent f inverse sent)
 unfolding sectionOfSent
 section-of-sent f inverse sent =
-    of-both (SectionEnds ofSent) (eqb (gridOf f .refusal .number) 0) (sectionOf inverse (gridOf f .sections) sent) (record { section = record { 0 = 0 }; refusal = gridOf f .refusal })
-    (let own = section-of inverse (gridOf f .sections) sent in record { refuses = refuses-more ofSent ofEntry 0 0 _ refl refl (omega arith) (own .refuses); either = own .either })
+    of-both (SectionEnds ofSent) (eqb (gridOf f .refusal .number) 0) (sectionOf inverse (gridOf f .sections) sent)
+    (record { section = record { 0 = 0 }; refusal = gridOf f .refusal })
+    (let own = section-of inverse (gridOf f .sections) sent in record {
+      refuses = refuses-more ofSent ofEntry 0 0 _ refl refl (omega arith)
+          (own .refuses);
+      either = own .either;
+    })
     (record { refuses = refuses-more ofSent ofFrame 0 0 (gridOf f .refusal) refl refl (omega arith) (grid-refuses f); either = λ some. refl })
 
 -- ---- layouts
@@ -145,4 +163,4 @@ unfolding sectionIn
 section-in l x y pass =
     of-both (SectionEnds ofLayout) (hasIn l x y pass) (record { section = record { 0 = numberIn l pass (groupIn l x y) }; refusal = none }) notIn
     (record { refuses = refuses-none ofLayout 0 refl; either = λ some. absurd (some refl) })
-    (record { refuses = refuses-with ofLayout 0 14 0 refl refl (omega arith); either = λ some. refl })
+    (record { refuses = refuses-here ofLayout 14 refl refl; either = λ some. refl })

@@ -21,7 +21,9 @@ module _ (f : Facts) (s : List ℕ) (word : ℕ) (before after : Buffers) (h : H
 
   -- the status word tells the refusal's number and its place
   pub head-told : held word ≡ said .refusal
-  head-told = ap held (h .recorded .status) ∙ status-held ofHeader (bitCount s) (said .refusal) (omega arith) (answered-refuses f s (judgedAll s f before) (judged-all s f before))
+  head-told =
+      ap held (h .recorded .status) ∙ status-held ofHeader (bitCount s) (said .refusal) (omega arith)
+      (answered-refuses f s (judgedAll s f before) (judged-all s f before))
 
   module _ (zero : word ≡ 0) where
     ok : eqb (said .refusal .number) 0 ≡ true

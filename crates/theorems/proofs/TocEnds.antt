@@ -1,4 +1,5 @@
--- The section entries: a table, "order needed" where no order is lent, or a refusal with a number of theirs at a place within the input; only a table is written.
+-- The section entries: a table, "order needed" where no order is lent, or a refusal with a number of theirs at a place within the input; only a
+-- table is written.
 use Prim.Native.Nat.{ℕ, _*_, _≤_}
 use native.Mathlib.Omega.{arith}
 use mathlib.Core.Path.{_≡_, refl}
@@ -24,7 +25,7 @@ use Rattle.toc.specs.Reading.{Tables, tables, roomy, judgedBy, judged, judgedOr
 use Rattle.toc.proofs.Judging.{judged-fair}
 use Rattle.toc.proofs.Accepted.{Telling, same-answer, first-telling, second-telling}
 use Rattle.theorems.specs.Refusing.{Refuses, Tells, ofFrame, ofOrder, ofToc, ofTocOrder}
-use Rattle.theorems.proofs.Refusing.{holds, refuses-none, refuses-with, refuses-pick, refuses-more}
+use Rattle.theorems.proofs.Refusing.{holds, refuses-none, refuses-here, refuses-pick, refuses-more}
 use Rattle.theorems.proofs.Readers.{Own, own-bind, own-inside, own-pick, own-times, read-refuses}
 use Rattle.theorems.proofs.GridEnds.{grid-refuses}
 use Rattle.theorems.proofs.SectionEnds.{check-order}
@@ -36,7 +37,8 @@ Said l needs last (OrderNeeded place) = (needs ≡ true) × (place ≤ last)
 Said l needs last (Refused r) = Refuses l last r
 
 -- with what is known to be told: a table has a section, a refusal a number
-tells : (l : List ℕ) (needs : Bool) (last : ℕ) (a : TocRead) (sizes order : List ℕ) (t : Tables) → Telling a → Said l needs last a → Tells l needs last t (written a sizes order t) a
+tells : (l : List ℕ) (needs : Bool) (last : ℕ) (a : TocRead) (sizes order : List ℕ) (t : Tables) → Telling a → Said l needs last a
+    → Tells l needs last t (written a sizes order t) a
 unfolding written
 tells l needs last (Table toc) sizes order t k h = k
 tells l needs last (OrderNeeded place) sizes order t k h = (h .0, h .1, refl)
@@ -60,19 +62,22 @@ unfolding judgedBy
 judged-refuses s f place room =
     let inside : Refusal = pick (leb place (8 * length s)) none (refusal 11 0) in
     let lent : Refusal = pick room inside (refusal 3 0) in
-    refuses-pick unread 0 (ltb 16777216 (length s)) (refusal 2 0) (pick (eqb (gridOf f .refusal .number) 0) lent (gridOf f .refusal)) (refuses-with unread 0 2 0 refl refl (omega arith))
+    refuses-pick unread 0 (ltb 16777216 (length s)) (refusal 2 0) (pick (eqb (gridOf f .refusal .number) 0) lent (gridOf f .refusal))
+    (refuses-here unread 2 refl refl)
     (refuses-pick unread 0 (eqb (gridOf f .refusal .number) 0) lent (gridOf f .refusal)
     (refuses-pick unread 0 room inside (refusal 3 0)
-    (refuses-pick unread 0 (leb place (8 * length s)) none (refusal 11 0) (refuses-none unread 0 refl) (refuses-with unread 0 11 0 refl refl (omega arith)))
-    (refuses-with unread 0 3 0 refl refl (omega arith)))
+    (refuses-pick unread 0 (leb place (8 * length s)) none (refusal 11 0) (refuses-none unread 0 refl) (refuses-here unread 11 refl refl))
+    (refuses-here unread 3 refl refl))
     (refuses-more unread ofFrame 0 0 (gridOf f .refusal) refl refl (omega arith) (grid-refuses f)))
 
-order-refuses : (s : List ℕ) (f : Frame) (place : ℕ) (lent : List ℕ) (t : Tables) → Refuses ofTocOrder (bitCount s) (judgedOrder s (gridOf f) place lent t)
+order-refuses : (s : List ℕ) (f : Frame) (place : ℕ) (lent : List ℕ) (t : Tables)
+    → Refuses ofTocOrder (bitCount s) (judgedOrder s (gridOf f) place lent t)
 unfolding judgedOrder
 order-refuses s f place lent t =
     let first : Refusal = judged s (gridOf f) place t in
     refuses-pick ofTocOrder (bitCount s) (eqb (first .number) 0) (checked (gridOf f .sections) lent) first
-    (refuses-more ofTocOrder ofOrder 0 (bitCount s) (checked (gridOf f .sections) lent) refl refl (omega arith) (check-order (gridOf f .sections) lent))
+    (refuses-more ofTocOrder ofOrder 0 (bitCount s) (checked (gridOf f .sections) lent) refl refl (omega arith)
+    (check-order (gridOf f .sections) lent))
     (refuses-more ofTocOrder unread 0 (bitCount s) first refl refl (omega arith) (judged-refuses s f place (roomy (gridOf f .sections) t)))
 
 -- ---- what is read
@@ -85,7 +90,8 @@ own-toc : (count : ℕ) → Own ofToc (tocRows count)
 unfolding tocRows Own
 own-toc count = (refl, λ flag. own-pick ofToc (eqb flag 0) _ _ (own-inside ofToc _ _ _ (own-sizes ofToc refl refl count) (λ sizes. tt)) tt)
 
-sized-said : (l : List ℕ) (needs : Bool) (last count : ℕ) (sizes : List ℕ) (c : Cursor) → Refuses l last (c .fault) → Said l needs last (sizedAnswer count sizes c)
+sized-said : (l : List ℕ) (needs : Bool) (last count : ℕ) (sizes : List ℕ) (c : Cursor) → Refuses l last (c .fault)
+    → Said l needs last (sizedAnswer count sizes c)
 unfolding sizedAnswer
 sized-said l needs last count sizes c h = of-both (Said l needs last) (clear c) (Table (tocOf count sizes c)) (Refused (c .fault)) tt h
 
@@ -104,7 +110,8 @@ first-said s f place t =
     picked (λ (q : Reading). Said ofToc true (bitCount s) (q .answer)) (eqb (r .number) 0) (firstRead count out) (refusedRead r)
     (λ e.
     let h : place ≤ bitCount s = within s f place (roomy count t) (eqb-true _ 0 e) in
-    of-both (Said ofToc true (bitCount s)) (eqb (out .value .permuted) 0) (sizedAnswer count (out .value .sizes) (out .next)) (OrderNeeded (out .next .at))
+    of-both (Said ofToc true (bitCount s)) (eqb (out .value .permuted) 0) (sizedAnswer count (out .value .sizes) (out .next))
+    (OrderNeeded (out .next .at))
     (sized-said ofToc true (bitCount s) count (out .value .sizes) (out .next) (read-refuses ofToc refl s (tocRows count) (own-toc count) place h))
     (refl, read-within-end (tocRows count) s (start place) h))
     (λ e. refuses-more ofToc unread 0 (bitCount s) r refl refl (omega arith) (judged-refuses s f place (roomy count t)))
@@ -114,11 +121,13 @@ order-last : (b : Bool) (first last : Refusal) → eqb (first .number) 0 ≡ b �
 order-last true first last e z = eqb-true (first .number) 0 e
 order-last false first last e z = z
 
-judged-first : (s : List ℕ) (f : Frame) (place : ℕ) (lent : List ℕ) (t : Tables) → judgedOrder s (gridOf f) place lent t .number ≡ 0 → judged s (gridOf f) place t .number ≡ 0
+judged-first : (s : List ℕ) (f : Frame) (place : ℕ) (lent : List ℕ) (t : Tables) → judgedOrder s (gridOf f) place lent t .number ≡ 0
+    → judged s (gridOf f) place t .number ≡ 0
 unfolding judgedOrder
 judged-first s f place lent t z = order-last _ (judged s (gridOf f) place t) (checked (gridOf f .sections) lent) refl z
 
-second-said : (s : List ℕ) (f : Frame) (place : ℕ) (lent : List ℕ) (t : Tables) → Said ofTocOrder false (bitCount s) (secondReading s f place lent t .answer)
+second-said : (s : List ℕ) (f : Frame) (place : ℕ) (lent : List ℕ) (t : Tables)
+    → Said ofTocOrder false (bitCount s) (secondReading s f place lent t .answer)
 unfolding secondReading secondRead refusedRead
 second-said s f place lent t =
     let count : ℕ = gridOf f .sections in
@@ -127,23 +136,29 @@ second-said s f place lent t =
     picked (λ (q : Reading). Said ofTocOrder false (bitCount s) (q .answer)) (eqb (r .number) 0) (secondRead count lent out) (refusedRead r)
     (λ e.
     let h : place ≤ bitCount s = within s f place (roomy count t) (judged-first s f place lent t (eqb-true _ 0 e)) in
-    sized-said ofTocOrder false (bitCount s) count (out .value) (out .next) (read-refuses ofTocOrder refl s (sizeRows count) (own-sizes ofTocOrder refl refl count) place h))
+    sized-said ofTocOrder false (bitCount s) count (out .value) (out .next)
+    (read-refuses ofTocOrder refl s (sizeRows count) (own-sizes ofTocOrder refl refl count) place h))
     (λ e. order-refuses s f place lent t)
 
 -- ---- the two entries, with what their definitions say for the C functions
 
-pub first-tells : (s : List ℕ) (f : Frame) (place : ℕ) (t : Tables) → Tells ofToc true (bitCount s) t (after (firstReading s f place t) t) (firstReading s f place t .answer)
+pub first-tells : (s : List ℕ) (f : Frame) (place : ℕ) (t : Tables)
+    → Tells ofToc true (bitCount s) t (after (firstReading s f place t) t) (firstReading s f place t .answer)
 first-tells s f place t = tells ofToc true (bitCount s) (firstReading s f place t .answer) _ _ t (first-telling s f place t) (first-said s f place t)
 
 pub second-tells : (s : List ℕ) (f : Frame) (place : ℕ) (lent : List ℕ) (t : Tables)
     → Tells ofTocOrder false (bitCount s) t (after (secondReading s f place lent t) t) (secondReading s f place lent t .answer)
-second-tells s f place lent t = tells ofTocOrder false (bitCount s) (secondReading s f place lent t .answer) _ _ t (second-telling s f place t lent) (second-said s f place lent t)
+second-tells s f place lent t =
+    tells ofTocOrder false (bitCount s) (secondReading s f place lent t .answer) _ _ t (second-telling s f place t lent)
+    (second-said s f place lent t)
 
 pub read-toc : (s : List ℕ) (f : Frame) (place : ℕ) (t : Tables) (result : TocRead) (o z p i : List ℕ)
     → Done (firstReading s f place t) t result o z p i → Tells ofToc true (bitCount s) t (tables o z p i) result
-read-toc s f place t result o z p i d = ends ofToc true (bitCount s) (firstReading s f place t) t result o z p i (first-telling s f place t) (first-said s f place t) d
+read-toc s f place t result o z p i d =
+    ends ofToc true (bitCount s) (firstReading s f place t) t result o z p i (first-telling s f place t) (first-said s f place t) d
 
 pub read-toc-with-order : (s : List ℕ) (f : Frame) (place : ℕ) (lent : List ℕ) (t : Tables) (result : TocRead) (o z p i : List ℕ)
     → Done (secondReading s f place lent t) t result o z p i → Tells ofTocOrder false (bitCount s) t (tables o z p i) result
 read-toc-with-order s f place lent t result o z p i d =
-    ends ofTocOrder false (bitCount s) (secondReading s f place lent t) t result o z p i (second-telling s f place t lent) (second-said s f place lent t) d
+    ends ofTocOrder false (bitCount s) (secondReading s f place lent t) t result o z p i (second-telling s f place t lent)
+    (second-said s f place lent t) d

@@ -1,1 +1,3 @@
 pub mod Refusing
+pub mod Functions
+pub mod Comes

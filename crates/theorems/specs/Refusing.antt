@@ -1,5 +1,5 @@
--- Demand 1 as one statement: a function ends with an answer or with a refusal of the rules, never with both, and a refusal changes nothing that was lent.
--- proofs/Refusing.antt has the law that all functions share, and the files behind it a law for each public function that can refuse, named after it.
+-- What demand 1 asks of a function: it ends with an answer or with a refusal of the rules, never with both, and a refusal changes nothing that was
+-- lent. Functions.antt asks it of each public function that can refuse.
 use Prim.Native.Nat.{ℕ, _/_, _%_, _≤_, _<_}
 use mathlib.Core.Path.{_≡_}
 use mathlib.Core.Logic.{_⊎_}
@@ -8,7 +8,7 @@ use mathlib.Core.Bool.{Bool, true, false, _&&_, _||_}
 use lib.Dec.{eqb, leb}
 use Rattle.bits.specs.declared.Refusal.{Refusal}
 use Rattle.bits.specs.declared.Cursor.{Cursor}
-use Rattle.bits.specs.Refusals.{refusal, none, clear}
+use Rattle.bits.specs.Refusals.{refusal, clear}
 use Rattle.bits.specs.Bits.{bitCount}
 use Rattle.grid.specs.declared.Grid.{Grid}
 use Rattle.grid.specs.declared.Number.{Number}
@@ -31,24 +31,29 @@ abbrev pub among : List ℕ → ℕ → Bool
 among [] n = false
 among (k ∷ more) n = eqb k n || among more n
 
--- whether all are numbers of document 01: 1 to 14
+-- whether all are numbers of the rules: 1 to 14
 abbrev pub rules : List ℕ → Bool
 rules [] = true
 rules (k ∷ more) = (leb 1 k && leb k 14) && rules more
 
--- Nothing is refused (number 0, place 0), or it is with one of the numbers, at a bit place that is no further than the last.
+-- the refusals of what is read, which have the place of a field; all others, and none, have place 0
+abbrev pub placed : List ℕ
+placed = 4 ∷ 5 ∷ 6 ∷ 7 ∷ 12 ∷ []
+
+-- Nothing is refused (number 0), or it is with one of the numbers; the bit place is no further than the last.
 pub record Refuses (numbers : List ℕ) (last : ℕ) (r : Refusal) : Type 0 where
   pub ruled : rules numbers ≡ true
   pub listed : among (0 ∷ numbers) (r .number) ≡ true
   pub inside : r .place ≤ last
-  pub nothing : r .number ≡ 0 → r ≡ none
+  pub elsewhere : among placed (r .number) ≡ false → r .place ≡ 0
 
 -- A function's end: its refusal, and what it said. Beside a refusal stands no answer: zeros alone, and what was lent as it was.
 pub record Ends {A : Type 0} (numbers : List ℕ) (last : ℕ) (r : Refusal) (beside said : A) : Type 0 where
   pub refuses : Refuses numbers last r
   pub either : (r .number ≡ 0 → ⊥) → said ≡ beside
 
--- the answers of functions that lend nothing: a number, yes or no, a rectangle, a size, a grid, a section number, a sent number, a kind, a place, a layout
+-- the answers of functions that lend nothing: a number, yes or no, a rectangle, a size, a grid, a section number, a sent number, a kind, a place, a
+-- layout
 abbrev pub NumberEnds : List ℕ → Number → Type 0
 NumberEnds numbers n = Ends numbers 0 (n .refusal) 0 (n .value)
 
@@ -64,7 +69,8 @@ SizeEnds numbers z = Ends numbers 0 (z .refusal) (0 ∷ 0 ∷ []) (z .width ∷ 
 abbrev pub GridEnds : List ℕ → Grid → Type 0
 GridEnds numbers g =
     Ends numbers 0 (g .refusal) (0 ∷ 0 ∷ 0 ∷ 0 ∷ 0 ∷ 0 ∷ 0 ∷ 0 ∷ 0 ∷ 0 ∷ 0 ∷ [])
-    (g .width ∷ g .height ∷ g .side ∷ g .«lf_side» ∷ g .columns ∷ g .rows ∷ g .«lf_columns» ∷ g .«lf_rows» ∷ g .groups ∷ g .«lf_groups» ∷ g .sections ∷ [])
+    (g .width ∷ g .height ∷ g .side ∷ g .«lf_side»
+    ∷ g .columns ∷ g .rows ∷ g .«lf_columns» ∷ g .«lf_rows» ∷ g .groups ∷ g .«lf_groups» ∷ g .sections ∷ [])
 
 abbrev pub SectionEnds : List ℕ → SectionAnswer → Type 0
 SectionEnds numbers a = Ends numbers 0 (a .refusal) 0 (a .section .0)
@@ -81,7 +87,8 @@ PlaceEnds numbers a = Ends numbers 0 (a .refusal) (0 ∷ 0 ∷ []) (a .offset �
 abbrev pub LayoutEnds : List ℕ → LayoutAnswer → Type 0
 LayoutEnds numbers a =
     Ends numbers 0 (a .refusal) (0 ∷ 0 ∷ 0 ∷ 0 ∷ 0 ∷ 0 ∷ 0 ∷ 0 ∷ [])
-    (a .layout .width ∷ a .layout .height ∷ a .layout .power ∷ a .layout .columns ∷ a .layout .groups ∷ a .layout .«lf_groups» ∷ a .layout .sections ∷ a .layout .passes ∷ [])
+    (a .layout .width ∷ a .layout .height ∷ a .layout .power ∷ a .layout .columns
+    ∷ a .layout .groups ∷ a .layout .«lf_groups» ∷ a .layout .sections ∷ a .layout .passes ∷ [])
 
 -- the header entry: its record and the place behind it, and the three lent buffers
 pub record HeaderSaid : Type 0 where
@@ -100,7 +107,8 @@ pub record TextSaid : Type 0 where
   pub bytes : List ℕ
 
 abbrev pub TextEnds : List ℕ → TextAnswer → List ℕ → List ℕ → Type 0
-TextEnds numbers a before after = Ends {A = TextSaid} numbers 0 (a .refusal) (record { length = 0; bytes = before }) (record { length = a .length; bytes = after })
+TextEnds numbers a before after =
+    Ends {A = TextSaid} numbers 0 (a .refusal) (record { length = 0; bytes = before }) (record { length = a .length; bytes = after })
 
 -- The section entries answer a table, or "order needed" where no order is lent, or a refusal, which has a number; only a table changes what was lent.
 abbrev pub Tells : {A : Type 0} → List ℕ → Bool → ℕ → A → A → TocRead → Type 0
@@ -119,6 +127,9 @@ WordEnds numbers last word before after = Ends numbers last (held word) before a
 pub record TocLent : Type 0 where
   pub tables : Tables
   pub words : List ℕ
+
+abbrev pub lent : Tables → List ℕ → TocLent
+lent t words = record { tables = t; words = words }
 
 pub record ListLent : Type 0 where
   pub bytes : List ℕ
