@@ -6,7 +6,6 @@ pub mod Views
 pub mod Tables
 pub mod Rows
 pub mod Reading
-pub mod Numbered
 pub mod Once
 pub mod Columns
 pub mod Values

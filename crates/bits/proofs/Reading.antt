@@ -42,6 +42,10 @@ pub picked : {A : Type 0} (P : A → Type 0) (b : Bool) (x y : A) → (b ≡ tru
 picked P true x y h k = h refl
 picked P false x y h k = k refl
 
+-- what holds of both choices holds of the pick
+pub of-both : {A : Type 0} (P : A → Type 0) (b : Bool) (x y : A) → P x → P y → P (pick b x y)
+of-both P b x y h k = picked P b x y (λ e. h) (λ e. k)
+
 -- ---- the end
 
 -- a field never ends past the end, read or refused

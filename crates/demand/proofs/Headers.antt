@@ -12,8 +12,7 @@ use Rattle.bits.specs.declared.Refusal.{Refusal}
 use Rattle.bits.specs.Refusals.{pick, refusal, none, start}
 use Rattle.bits.specs.Bits.{bitCount}
 use Rattle.bits.specs.Codec.{Codec, u, u32, val}
-use Rattle.bits.proofs.Reading.{read-within-end}
-use Rattle.bits.proofs.Numbered.{of-both}
+use Rattle.bits.proofs.Reading.{read-within-end, of-both}
 use Rattle.grid.specs.Measured.{upsamples, goodRecord}
 use Rattle.order.proofs.Entries.{and-both}
 use Rattle.filter.specs.Values.{float, floats}

@@ -11,7 +11,7 @@ use borrow.Author.Tests.{leb-true, eqb-true}
 use Rattle.bits.specs.declared.Refusal.{Refusal}
 use Rattle.bits.specs.Refusals.{pick, refusal, none}
 use Rattle.bits.proofs.Bits.{and-left, and-right}
-use Rattle.bits.proofs.Numbered.{of-both}
+use Rattle.bits.proofs.Reading.{of-both}
 use Rattle.grid.specs.declared.Frame.{Frame}
 use Rattle.header.specs.declared.Facts.{Facts}
 use Rattle.header.specs.Entry.{badFacts, noRoom, judged, stands, refusalOf, refusedHeader, answered, HeaderTold}

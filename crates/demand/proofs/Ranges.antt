@@ -19,8 +19,7 @@ use Rattle.bits.specs.Codec.{Codec, u, bool, u32, cases, u64, f16, padding, ski
 use Rattle.bits.specs.Table.{Table, ends, row, fails, failed, read, bind, within, times}
 use Rattle.bits.specs.Extensions.{lengths, extensions}
 use Rattle.bits.proofs.Bits.{bits-lt}
-use Rattle.bits.proofs.Reading.{picked, fault-stays}
-use Rattle.bits.proofs.Numbered.{of-both}
+use Rattle.bits.proofs.Reading.{picked, fault-stays, of-both}
 
 -- ---- numbers
 

@@ -12,7 +12,7 @@ use Rattle.bits.specs.declared.view.Seen.{Seen}
 use Rattle.bits.specs.Refusals.{pick, start}
 use Rattle.bits.specs.View.{seen, seenChoice}
 use Rattle.bits.specs.Codec.{u32, field, val, plus, chosen}
-use Rattle.bits.proofs.Numbered.{of-both}
+use Rattle.bits.proofs.Reading.{of-both}
 use Rattle.bits.proofs.Views.{Held, held-less, fieldOf, see-choice}
 use Rattle.header.specs.Private.{small, seenSmall}
 

@@ -12,7 +12,7 @@ use borrow.Author.Tests.{le-leb, eqb-true}
 use Rattle.bits.specs.declared.Refusal.{Refusal}
 use Rattle.bits.specs.Refusals.{refusal, none}
 use Rattle.bits.specs.Bits.{bitCount}
-use Rattle.bits.proofs.Numbered.{Known, of-both}
+use Rattle.bits.proofs.Reading.{of-both}
 use Rattle.order.proofs.Entries.{split}
 use Rattle.grid.specs.declared.Frame.{Frame}
 use Rattle.order.specs.Sums.{sumTo}
@@ -37,7 +37,7 @@ use Rattle.theorems.proofs.HeaderEnds.{judge-header, answered-refuses}
 use Rattle.theorems.proofs.TocEnds.{first-tells}
 use Rattle.theorems.proofs.Tables.{offset-at, size-at, before-small, total-by-section}
 use Rattle.theorems.proofs.Cuts.{same-text}
-use Rattle.theorems.proofs.Lengths.{refused-long, order-long, listing-long}
+use Rattle.theorems.proofs.Lengths.{Known, refused-long, order-long, listing-long}
 
 -- ---- what is said
 

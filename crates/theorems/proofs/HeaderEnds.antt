@@ -11,7 +11,7 @@ use Rattle.bits.specs.declared.Refusal.{Refusal}
 use Rattle.bits.specs.Refusals.{pick, refusal, none}
 use Rattle.bits.specs.Bits.{bitCount}
 use Rattle.bits.specs.Codec.{Codec}
-use Rattle.bits.proofs.Numbered.{of-both}
+use Rattle.bits.proofs.Reading.{of-both}
 use Rattle.filter.specs.Filter.{restoration}
 use Rattle.header.specs.declared.Facts.{Facts}
 use Rattle.header.specs.declared.opening.Opening.{Opening}

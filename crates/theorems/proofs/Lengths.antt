@@ -12,8 +12,7 @@ use borrow.Author.Tests.{eqb-true, lt-ltb, ltb-true}
 use Rattle.bits.specs.declared.Refusal.{Refusal}
 use Rattle.bits.specs.Refusals.{pick, none}
 use Rattle.bits.proofs.Bits.{and-left}
-use Rattle.bits.proofs.Reading.{picked}
-use Rattle.bits.proofs.Numbered.{Known, of-both}
+use Rattle.bits.proofs.Reading.{picked, of-both}
 use Rattle.grid.specs.declared.Frame.{Frame}
 use Rattle.grid.specs.declared.Grid.{Grid}
 use Rattle.grid.specs.declared.Rect.{Rect}
@@ -34,6 +33,10 @@ use Rattle.listing.specs.declared.rows.Row.{Row}
 use Rattle.listing.specs.Text.{column, heading, kindName, hasPass, hasGroup, hasRect, rowText, rowsFrom, totalText, refusedText, orderText}
 use Rattle.listing.specs.Listed.{rectBy, kindNumbers, rowAt, listingText}
 use Rattle.theorems.proofs.KindsBack.{Stands, kind-stands}
+
+-- a number of the rules, and a place within the longest input
+abbrev pub Known : Refusal → Type 0
+Known r = (r .number ≤ 14) × (r .place ≤ 134217728)
 
 -- ---- a column
 

@@ -17,8 +17,7 @@ use Rattle.bits.specs.Steps.{Steps, gives, refuses, cut, run}
 use Rattle.bits.specs.Codec.{u, bool, u32, cases, u64, f16, padding, skip, steps, wideOf, field}
 use Rattle.bits.specs.Table.{ends, fails, failed, read}
 use Rattle.bits.specs.Extensions.{whole, extensions}
-use Rattle.bits.proofs.Reading.{padding-there}
-use Rattle.bits.proofs.Numbered.{of-both}
+use Rattle.bits.proofs.Reading.{padding-there, of-both}
 use Rattle.filter.specs.Values.{float, floats}
 use Rattle.filter.specs.Gabor.{channel, gabor, gaborRead}
 use Rattle.filter.specs.Epf.{sharp, scale, sigma, epf, epfRead}

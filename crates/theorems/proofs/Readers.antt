@@ -20,8 +20,7 @@ use Rattle.bits.specs.Steps.{Steps, gives, refuses, takes, skips, cut, cutAt, r
 use Rattle.bits.specs.Codec.{Codec, u, bool, u32, cases, u64, f16, padding, skip, steps, chosen, more, field}
 use Rattle.bits.specs.Table.{Table, ends, row, fails, failed, read, bind, within, times}
 use Rattle.bits.specs.Extensions.{lengths, extensions}
-use Rattle.bits.proofs.Reading.{picked, failed-same, fault-stays}
-use Rattle.bits.proofs.Numbered.{of-both}
+use Rattle.bits.proofs.Reading.{picked, failed-same, fault-stays, of-both}
 use Rattle.grid.proofs.Accepted.{and-parts}
 use Rattle.theorems.specs.Refusing.{among, rules, placed, Refuses, Hands}
 use Rattle.theorems.proofs.Refusing.{holds, among-more, refuses-none, refuses-with}

@@ -9,8 +9,7 @@ use lib.Dec.{eqb}
 use borrow.Author.Tests.{eqb-true, leb-true}
 use Rattle.bits.specs.declared.Refusal.{Refusal}
 use Rattle.bits.specs.Refusals.{pick, refusal, none}
-use Rattle.bits.proofs.Reading.{picked}
-use Rattle.bits.proofs.Numbered.{of-both}
+use Rattle.bits.proofs.Reading.{picked, of-both}
 use Rattle.order.proofs.Entries.{split}
 use Rattle.grid.proofs.Accepted.{and-parts}
 use Rattle.theorems.specs.Refusing.{among, rules, placed, Refuses}

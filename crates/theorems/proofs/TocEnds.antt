@@ -13,8 +13,7 @@ use Rattle.bits.specs.declared.Cursor.{Cursor}
 use Rattle.bits.specs.Refusals.{pick, refusal, none, start, clear}
 use Rattle.bits.specs.Bits.{bitCount}
 use Rattle.bits.specs.Table.{Out, read}
-use Rattle.bits.proofs.Reading.{picked, read-within-end}
-use Rattle.bits.proofs.Numbered.{of-both}
+use Rattle.bits.proofs.Reading.{picked, read-within-end, of-both}
 use Rattle.grid.specs.declared.Frame.{Frame}
 use Rattle.grid.specs.Measured.{gridOf}
 use Rattle.order.specs.Order.{checked}

@@ -16,8 +16,7 @@ use borrow.Author.Tests.{eqb-true, eqb-false}
 use Rattle.bits.specs.declared.Refusal.{Refusal}
 use Rattle.bits.specs.Refusals.{pick, refusal}
 use Rattle.bits.specs.Bits.{bitCount}
-use Rattle.bits.proofs.Reading.{picked}
-use Rattle.bits.proofs.Numbered.{of-both}
+use Rattle.bits.proofs.Reading.{picked, of-both}
 use Rattle.grid.specs.declared.Frame.{Frame}
 use Rattle.grid.specs.declared.Rect.{Rect}
 use Rattle.grid.specs.Measured.{gridOf}

@@ -18,7 +18,7 @@ use Rattle.bits.specs.Bits.{bitCount, ahead}
 use Rattle.bits.specs.View.{seen, seenChoice}
 use Rattle.bits.specs.Codec.{u32, chosen, field}
 use Rattle.bits.proofs.Bits.{and-left, and-right}
-use Rattle.bits.proofs.Numbered.{of-both}
+use Rattle.bits.proofs.Reading.{of-both}
 use Rattle.bits.proofs.Windows.{whole-reaches}
 use Rattle.bits.proofs.Views.{Held, held-less, held-ahead, fieldOf, see-choice}
 use Rattle.bits.proofs.Steps.{field-place}

@@ -18,7 +18,7 @@ use Rattle.bits.specs.Codec.{u32, padding, field, chosen}
 use Rattle.bits.specs.Table.{ends, row, Out, read, bind, times}
 use Rattle.bits.proofs.Bits.{bits-lt}
 use Rattle.bits.proofs.Tables.{read-bind}
-use Rattle.bits.proofs.Numbered.{of-both}
+use Rattle.bits.proofs.Reading.{of-both}
 use Rattle.order.specs.Tables.{tabulate}
 use Rattle.order.specs.Sums.{sumTo}
 use Rattle.order.proofs.Tables.{tabulate-ext}
