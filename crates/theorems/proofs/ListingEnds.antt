@@ -16,6 +16,7 @@ use Rattle.order.specs.Order.{checked}
 use Rattle.listing.specs.declared.TextAnswer.{TextAnswer}
 use Rattle.listing.specs.Put.{fitted, answerBy, Texted}
 use Rattle.listing.specs.Text.{refusedText, orderText}
+use Rattle.listing_job.specs.Job.{jobText}
 use Rattle.listing.specs.Listed.{listing, listingRefusal}
 use Rattle.theorems.specs.Refusing.{Refuses, TextEnds, ofFrame, ofOrder, ofText, ofListing}
 use Rattle.theorems.proofs.Refusing.{refuses-none, refuses-here, refuses-pick, refuses-more, beside}
@@ -41,20 +42,24 @@ pub fits : (text out : List ℕ) → Refuses ofText 0 (fitted text out)
 fits text out =
     refuses-pick ofText 0 (leb (length text) (length out)) none (refusal 3 0) (refuses-none ofText 0 refl) (refuses-here ofText 3 refl refl)
 
--- `list_frame` and every other function that writes a text: whatever the text is
-pub list-frame : (text before : List ℕ) (a : TextAnswer) (after : List ℕ) → Texted (fitted text before) text before a after
+-- a function that writes a text, whatever the text is
+text-ends : (text before : List ℕ) (a : TextAnswer) (after : List ℕ) → Texted (fitted text before) text before a after
     → TextEnds ofText a before after
-list-frame text before a after h = texted ofText (fitted text before) text before a after (fits text before) h
+text-ends text before a after h = texted ofText (fitted text before) text before a after (fits text before) h
+
+pub list-frame : (input before : List ℕ) (a : TextAnswer) (after : List ℕ) → Texted (fitted (jobText input) before) (jobText input) before a after
+    → TextEnds ofText a before after
+list-frame input before a after h = text-ends (jobText input) before a after h
 
 pub write-refused : (r : Refusal) (before : List ℕ) (a : TextAnswer) (after : List ℕ)
     → Texted (fitted (refusedText r) before) (refusedText r) before a after
     → TextEnds ofText a before after
-write-refused r before a after h = list-frame (refusedText r) before a after h
+write-refused r before a after h = text-ends (refusedText r) before a after h
 
 pub write-order-needed : (place : ℕ) (before : List ℕ) (a : TextAnswer) (after : List ℕ)
     → Texted (fitted (orderText place) before) (orderText place) before a after
     → TextEnds ofText a before after
-write-order-needed place before a after h = list-frame (orderText place) before a after h
+write-order-needed place before a after h = text-ends (orderText place) before a after h
 
 listing-refuses : (f : Frame) (offsets sizes order out : List ℕ) → Refuses ofListing 0 (listingRefusal f offsets sizes order out)
 unfolding listingRefusal

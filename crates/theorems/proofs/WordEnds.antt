@@ -40,6 +40,8 @@ use Rattle.c_words.specs.Records.{sectionNumber, sentNumber, numberAnswer, touc
 use Rattle.c_words.specs.Layouts.{layoutAnswer, layoutBy, sectionBy}
 use Rattle.c_words.specs.Contents.{tocStatus, tocAfter, noRoom, roomedReading, Listed}
 use Rattle.c_words.specs.Heading.{Buffers, buffers, HandedOut, HeadRead, recordRoom, noRecord, judgedAll, wordsAfter, signedAfter, floatsAfter}
+use Rattle.listing_job.specs.Job.{jobText}
+use Rattle.export.specs.Told.{untold, Told}
 use Rattle.theorems.specs.Refusing.{among, rules, Refuses, Ends, Tells, SectionEnds, held, WordEnds, lent, ListLent, TocWordEnds, ofFrame, ofIndex, ofFrameRoom, ofIndexRoom, ofLayout, ofLayoutRoom, ofSent, ofSentRoom, ofToc, ofTocOrder, ofTocRoom, ofFacts, ofHeader, ofText}
 use Rattle.theorems.proofs.Refusing.{holds, ruled, refuses-none, refuses-here, refuses-pick, refuses-more, beside}
 use Rattle.theorems.proofs.GridEnds as grid
@@ -320,19 +322,20 @@ hingevale-read-frame-header f s word before after h =
 
 -- ---- the listing: no word for its length, or no room for the text
 
-pub hingevale-list : (short : Bool) (text before after out out' : List ℕ) (word : ℕ)
-    → word ≡ statusOf (pick short (refusal 3 0) (fitted text before))
-    → after ≡ pick (eqb (pick short (refusal 3 0) (fitted text before) .number) 0) (sets before 0 text) before
-    → out' ≡ pick (eqb (pick short (refusal 3 0) (fitted text before) .number) 0) (set out 0 (length text)) out
+pub hingevale-list : (input before after out out' : List ℕ) (word : ℕ)
+    → Told (untold (ltb (length out) 1) (jobText input) before) (jobText input) before after out out' word
     → WordEnds {A = ListLent} ofText 0 word (record { bytes = before; words = out }) (record { bytes = after; words = out' })
-hingevale-list short text before after out out' word e b w =
+unfolding untold
+hingevale-list input before after out out' word d =
+    let text : List ℕ = jobText input in
+    let short : Bool = ltb (length out) 1 in
     let r : Refusal = pick short (refusal 3 0) (fitted text before) in
-    worded {A = ListLent} ofText 0 r word _ _ (omega arith) e
+    worded {A = ListLent} ofText 0 r word _ _ (omega arith) (d .status)
     (record {
       refuses = refuses-pick ofText 0 short (refusal 3 0) (fitted text before) (refuses-here ofText 3 refl refl) (fits text before);
       either =
           λ some.
-          let x : after ≡ before = b ∙ beside r (sets before 0 text) before some in
-          let y : out' ≡ out = w ∙ beside r (set out 0 (length text)) out some in
+          let x : after ≡ before = d .bytes ∙ beside r (sets before 0 text) before some in
+          let y : out' ≡ out = d .words ∙ beside r (set out 0 (length text)) out some in
           rw (x, y);
     })

@@ -4,11 +4,10 @@ use Prim.Native.Nat.{ℕ}
 use mathlib.Core.Path.{_≡_}
 use mathlib.Core.List.{List}
 use mathlib.Core.Bool.{Bool, true, false}
-use lib.Dec.{eqb}
-use lib.ListN.{length, set}
-use lib.Seq.{sets}
+use lib.Dec.{ltb}
+use lib.ListN.{length}
 use Rattle.bits.specs.declared.Refusal.{Refusal}
-use Rattle.bits.specs.Refusals.{pick, refusal}
+use Rattle.bits.specs.Refusals.{refusal}
 use Rattle.bits.specs.declared.Cursor.{Cursor}
 use Rattle.bits.specs.Bits.{bitCount}
 use Rattle.bits.specs.Table.{read, failed}
@@ -43,12 +42,13 @@ use Rattle.listing.specs.declared.TextAnswer.{TextAnswer}
 use Rattle.listing.specs.Put.{fitted, Texted}
 use Rattle.listing.specs.Text.{refusedText, orderText}
 use Rattle.listing.specs.Listed.{listing, listingRefusal}
-use Rattle.c_words.specs.Status.{statusOf}
+use Rattle.listing_job.specs.Job.{jobText}
 use Rattle.c_words.specs.Answers.{Given}
 use Rattle.c_words.specs.Records.{sectionNumber, sentNumber, numberAnswer, touchAnswer, sectionAnswer, sentAnswer, placedAnswer, gridAnswer, kindAnswer, placeAnswer, sectionOfNumbers}
 use Rattle.c_words.specs.Layouts.{layoutAnswer, sectionBy}
 use Rattle.c_words.specs.Contents.{noRoom, roomedReading, Listed}
 use Rattle.c_words.specs.Heading.{Buffers, HeadRead, noRecord}
+use Rattle.export.specs.Told.{untold, Told}
 use Rattle.theorems.specs.Refusing.{Refuses, Ends, NumberEnds, TouchEnds, RectEnds, SizeEnds, GridEnds, ofFrame, ofIndex, SectionEnds, SentEnds, KindEnds, PlaceEnds, LayoutEnds, ofIndexRoom, ofLayout, ofOrder, ofInverse, ofEntry, ofSent, Tells, ofToc, ofTocOrder, headerSaid, ofFacts, ofHeader, ofFilter, TextEnds, ofText, ofListing, among, rules, placed, Hands, ofBits, ofEnum, ofPadding, ofHalf, WordEnds, lent, ListLent, TocWordEnds, ofFrameRoom, ofLayoutRoom, ofSentRoom, ofTocRoom}
 
 pub record EveryFunction : Type 0 where
@@ -104,7 +104,7 @@ pub record EveryFunction : Type 0 where
       → Texted (fitted (orderText place) before) (orderText place) before a after → TextEnds ofText a before after
   pub write-listing : (f : Frame) (offsets sizes order before : List ℕ) (a : TextAnswer) (after : List ℕ)
       → Texted (listingRefusal f offsets sizes order before) (listing f offsets sizes order) before a after → TextEnds ofListing a before after
-  pub list-frame : (text before : List ℕ) (a : TextAnswer) (after : List ℕ) → Texted (fitted text before) text before a after
+  pub list-frame : (input before : List ℕ) (a : TextAnswer) (after : List ℕ) → Texted (fitted (jobText input) before) (jobText input) before a after
       → TextEnds ofText a before after
   -- readers
   pub read-bits-if : (s : List ℕ) (c : Cursor) (on : Bool) (n d : ℕ) → Hands ofBits s c (field s on (u n) d c .next)
@@ -173,8 +173,6 @@ pub record EveryFunction : Type 0 where
       → TocWordEnds ofTocOrder false (bitCount s) word (lent t out) (lent (tables o z p i) out')
   pub hingevale-read-frame-header : (f : Facts) (s : List ℕ) (word : ℕ) (before after : Buffers) → HeadRead f s word before after
       → WordEnds ofHeader (bitCount s) word before after
-  pub hingevale-list : (short : Bool) (text before after out out' : List ℕ) (word : ℕ)
-      → word ≡ statusOf (pick short (refusal 3 0) (fitted text before))
-      → after ≡ pick (eqb (pick short (refusal 3 0) (fitted text before) .number) 0) (sets before 0 text) before
-      → out' ≡ pick (eqb (pick short (refusal 3 0) (fitted text before) .number) 0) (set out 0 (length text)) out
+  pub hingevale-list : (input before after out out' : List ℕ) (word : ℕ)
+      → Told (untold (ltb (length out) 1) (jobText input) before) (jobText input) before after out out' word
       → WordEnds {A = ListLent} ofText 0 word (record { bytes = before; words = out }) (record { bytes = after; words = out' })
