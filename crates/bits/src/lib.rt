@@ -1,6 +1,8 @@
 // The bit reader: pieces of a field, fields of up to 32 bits, Bool and padding, each read at a cursor that keeps the first fault. A function
 // given a cursor with a fault reads nothing and hands it on, so a bundle is straight-line code. Every function is total: a cursor past the
 // end, a width over 32 and a long slice have an answer too.
+#![tactic(auto)]
+
 mod fields;
 mod pieces;
 mod view;
@@ -17,42 +19,42 @@ pub use view::{Seen, View, see, see_choice};
 pub use window::{Ahead, look_ahead, low_bits};
 
 // Why something was refused, and at which bit. Number 0: nothing was.
-#[derive(Drop)]
+#[derive(Clone, Copy)]
 pub struct Refusal {
     pub number: u32,
     pub place: u64,
 }
 
 // A bit place, and the first fault on the way to it.
-#[derive(Drop)]
+#[derive(Clone, Copy)]
 pub struct Cursor {
     pub at: u64,
     pub fault: Refusal,
 }
 
 // A field of up to 32 bits that was read, and the cursor after it. A Bool is 0 or 1, an f16 its 16-bit pattern.
-#[derive(Drop)]
+#[derive(Clone, Copy)]
 pub struct Field {
     pub value: u32,
     pub next: Cursor,
 }
 
 // A field of up to 64 bits that was read.
-#[derive(Drop)]
+#[derive(Clone, Copy)]
 pub struct Wide {
     pub value: u64,
     pub next: Cursor,
 }
 
 // One choice of a U32: base + u(bits); a constant has no bits.
-#[derive(Drop)]
+#[derive(Clone, Copy)]
 pub struct Choice {
     pub base: u32,
     pub bits: u32,
 }
 
 // The four choices of a U32, by its selector.
-#[derive(Drop)]
+#[derive(Clone, Copy)]
 pub struct Choices {
     pub d0: Choice,
     pub d1: Choice,
@@ -61,7 +63,7 @@ pub struct Choices {
 }
 
 // A number of bits in two halves: high * 2^64 + low.
-#[derive(Drop)]
+#[derive(Clone, Copy)]
 pub struct Sum {
     pub high: u64,
     pub low: u64,

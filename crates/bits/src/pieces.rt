@@ -8,7 +8,7 @@ use crate::window::{look_ahead, low_bits};
 use crate::{Cursor, Field, Refusal, Sum, refused};
 
 // So many bits of a field: whether they are there, their value, and the place after them.
-#[derive(Drop)]
+#[derive(Clone, Copy)]
 pub struct Piece {
     pub there: bool,
     pub value: u32,

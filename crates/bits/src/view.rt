@@ -6,14 +6,14 @@ use crate::Choice;
 use crate::window::{at_most_32, low_bits};
 
 // Bits that are known, from a place on.
-#[derive(Drop)]
+#[derive(Clone, Copy)]
 pub struct View {
     pub bits: u64,
     pub at: u64,
 }
 
 // A number out of them, and those behind it.
-#[derive(Drop)]
+#[derive(Clone, Copy)]
 pub struct Seen {
     pub value: u32,
     pub rest: View,

@@ -3,7 +3,7 @@ ghost use Rattle.std.specs.Prelude.{◌≡◌, ◌+◌, ◌-◌, ◌*◌, ◌/�
 ghost use Rattle.bits.specs.Bits.{bits_at, ahead};
 
 // The 56 bits from a place on, zero behind the end, and whether the eight bytes that hold them may be read: then each of the 56 is there.
-#[derive(Drop)]
+#[derive(Clone, Copy)]
 pub struct Ahead {
     pub bits: u64,
     pub whole: bool,

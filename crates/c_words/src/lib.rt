@@ -1,4 +1,6 @@
 // What the C functions hand in and out: numbers to records, records to words in lent slices, and the status word.
+#![tactic(auto)]
+
 mod answers;
 mod contents;
 mod heads;

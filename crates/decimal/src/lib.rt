@@ -1,18 +1,20 @@
 // Numbers as text: decimal digits with no sign and no zero in front. What is written reads back as the same number, and a text that
 // reads as a number is the one that is written for it.
+#![tactic(auto)]
+
 ghost use Rattle.std.specs.Prelude.{◌≡◌, ◌+◌, ◌*◌, ◌-◌, ◌<◌, leb};
 ghost use Rattle.decimal.specs.Decimal.{digits_of, parsed, is_digit, leads};
 ghost use Rattle.decimal.specs.UpTo.{find_at, number_at};
 
 // A number that was read; where the text is no number, or one over the limit, not good and 0.
-#[derive(Drop)]
+#[derive(Clone, Copy)]
 pub struct Parsed {
     pub good: bool,
     pub value: u64,
 }
 
 // A number that stood within a text, and the index behind the byte that ended it.
-#[derive(Drop)]
+#[derive(Clone, Copy)]
 pub struct Step {
     pub good: bool,
     pub value: u64,
@@ -20,7 +22,7 @@ pub struct Step {
 }
 
 // The digits of a number: the text begins at start and runs to the end; the bytes before it are 0.
-#[derive(Drop)]
+#[derive(Clone, Copy)]
 pub struct Digits {
     pub bytes: [u8; 20],
     pub start: usize,

@@ -1,5 +1,7 @@
 // The C functions of the static library, over numbers and lent slices. A function that can refuse answers one status word, and hands a
 // record out as words in lent slices, which only an acceptance writes. `include/hingevale.h` declares them, with the order of the words.
+#![tactic(auto)]
+
 mod contents;
 mod geometry;
 mod heading;

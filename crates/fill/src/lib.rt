@@ -1,5 +1,7 @@
 // Values put into lent slices, one at a place or many from a place on. A place that the slice hasn't is passed over, so each function is total, and
 // the same walk serves to judge, on a short slice, and to fill.
+#![tactic(auto)]
+
 ghost use Rattle.std.specs.Prelude.{◌≡◌, min, set};
 ghost use Rattle.std.proofs.lemmas.List.Edits.{sets};
 

@@ -10,14 +10,14 @@ use crate::settings::{
 };
 use bits::Cursor;
 
-#[derive(Drop)]
+#[derive(Clone, Copy)]
 pub struct EdgePreservingFilter {
     pub enabled: bool,
     pub iters: u32,
     pub params: EpfParams,
 }
 
-#[derive(Drop)]
+#[derive(Clone, Copy)]
 pub struct EpfRead {
     pub value: EdgePreservingFilter,
     pub next: Cursor,

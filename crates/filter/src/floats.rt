@@ -5,7 +5,7 @@ ghost use Rattle.filter.specs.Private.{float_read};
 
 use bits::Cursor;
 
-#[derive(Drop)]
+#[derive(Clone, Copy)]
 pub struct FloatRead {
     pub value: f32,
     pub next: Cursor,

@@ -8,26 +8,26 @@ use crate::weights::is_unbalanced;
 use bits::Cursor;
 
 // Channel by channel, two weights each.
-#[derive(Drop)]
+#[derive(Clone, Copy)]
 pub struct Gabor {
     pub enabled: bool,
     pub weights: [f32; 6],
 }
 
-#[derive(Drop)]
+#[derive(Clone, Copy)]
 pub struct GaborRead {
     pub value: Gabor,
     pub next: Cursor,
 }
 
 // A channel's two weights.
-#[derive(Drop)]
+#[derive(Clone, Copy)]
 pub struct Channel {
     pub first: f32,
     pub second: f32,
 }
 
-#[derive(Drop)]
+#[derive(Clone, Copy)]
 pub struct ChannelRead {
     pub value: Channel,
     pub next: Cursor,

@@ -1,4 +1,6 @@
 // The filters of a frame: Gabor and the edge-preserving filter, read as src/filter.rs does, over the bit reader.
+#![tactic(auto)]
+
 mod epf;
 mod floats;
 mod gabor;
@@ -15,14 +17,14 @@ pub use gabor::{Gabor, GaborRead, read_gabor_if};
 pub use settings::EpfParams;
 pub use weights::is_unbalanced;
 
-#[derive(Drop)]
+#[derive(Clone, Copy)]
 pub struct RestorationFilter {
     pub gab: Gabor,
     pub epf: EdgePreservingFilter,
 }
 
 // What was read of the bundle, and the cursor after it.
-#[derive(Drop)]
+#[derive(Clone, Copy)]
 pub struct FilterRead {
     pub value: RestorationFilter,
     pub next: Cursor,

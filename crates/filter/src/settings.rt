@@ -8,7 +8,7 @@ ghost use Rattle.filter.specs.Private.{sharp_read, scale_read, sigma_read};
 use crate::floats::read_float_if;
 use bits::Cursor;
 
-#[derive(Drop)]
+#[derive(Clone, Copy)]
 pub struct EpfParams {
     pub sharp_lut: [f32; 8],
     pub channel_scale: [f32; 3],
@@ -20,7 +20,7 @@ pub struct EpfParams {
 }
 
 // The four sigma values on their way into the settings.
-#[derive(Drop)]
+#[derive(Clone, Copy)]
 pub struct EpfSigma {
     pub quant_mul: f32,
     pub pass0_sigma_scale: f32,
@@ -28,19 +28,19 @@ pub struct EpfSigma {
     pub border_sad_mul: f32,
 }
 
-#[derive(Drop)]
+#[derive(Clone, Copy)]
 pub struct SharpRead {
     pub value: [f32; 8],
     pub next: Cursor,
 }
 
-#[derive(Drop)]
+#[derive(Clone, Copy)]
 pub struct ScaleRead {
     pub value: [f32; 3],
     pub next: Cursor,
 }
 
-#[derive(Drop)]
+#[derive(Clone, Copy)]
 pub struct SigmaRead {
     pub value: EpfSigma,
     pub next: Cursor,

@@ -1,6 +1,8 @@
 // The grid of a frame, from the geometry of `src/header.rs`: sample sizes, groups and LF groups, rectangles, look-ups and regions.
 // Every function takes the six numbers of a frame by value, and answers for any six: what is wrong with them is refused with 8, 9 or
 // 10, in that order, then a group or a point that the frame doesn't have with 14. Nothing wraps.
+#![tactic(auto)]
+
 mod tiles;
 
 ghost use Rattle.std.specs.Prelude.{◌≡◌, true, false, ◌*◌, ◌<◌, ◌≤◌, ◌^◌};
@@ -14,7 +16,7 @@ use tiles::{count, div_ceil, has, rect_for, touch_for};
 pub use tiles::{is_aabb_collides, judge};
 
 // The numbers of a frame that its geometry needs.
-#[derive(Drop)]
+#[derive(Clone, Copy)]
 pub struct Frame {
     pub width: u32,
     pub height: u32,
@@ -26,7 +28,7 @@ pub struct Frame {
 
 // What those six come to: the colour sample size, both sides, columns and rows of groups and LF groups, and how many sections there are.
 // All are 0 beside a refusal.
-#[derive(Drop)]
+#[derive(Clone, Copy)]
 pub struct Grid {
     pub width: u32,
     pub height: u32,
@@ -43,7 +45,7 @@ pub struct Grid {
 }
 
 // A rectangle in samples.
-#[derive(Drop)]
+#[derive(Clone, Copy)]
 pub struct Rect {
     pub left: u32,
     pub top: u32,
@@ -52,26 +54,26 @@ pub struct Rect {
 }
 
 // The answers: a value and a refusal, beside which the value is 0, false or the empty rectangle.
-#[derive(Drop)]
+#[derive(Clone, Copy)]
 pub struct Number {
     pub value: u32,
     pub refusal: Refusal,
 }
 
-#[derive(Drop)]
+#[derive(Clone, Copy)]
 pub struct Size {
     pub width: u32,
     pub height: u32,
     pub refusal: Refusal,
 }
 
-#[derive(Drop)]
+#[derive(Clone, Copy)]
 pub struct Placed {
     pub rect: Rect,
     pub refusal: Refusal,
 }
 
-#[derive(Drop)]
+#[derive(Clone, Copy)]
 pub struct Touches {
     pub value: bool,
     pub refusal: Refusal,

@@ -16,7 +16,7 @@ use fill::put_u32;
 use numbers::{read_enum_if, read_u32_if};
 use types::BlendMode;
 
-#[derive(Drop)]
+#[derive(Clone, Copy)]
 pub struct BlendingInfo {
     pub mode: BlendMode,
     pub alpha_channel: u32,
@@ -25,7 +25,7 @@ pub struct BlendingInfo {
 }
 
 // The same in numbers, as they are read and as an extra channel's four words have them.
-#[derive(Drop)]
+#[derive(Clone, Copy)]
 pub struct Blending {
     pub mode: u32,
     pub alpha_channel: u32,
@@ -33,14 +33,14 @@ pub struct Blending {
     pub source: u32,
 }
 
-#[derive(Drop)]
+#[derive(Clone, Copy)]
 pub struct BlendingRead {
     pub value: Blending,
     pub next: Cursor,
 }
 
 // Which mode decides on `source`: the bundle's own, or one that is given.
-#[derive(Drop)]
+#[derive(Clone, Copy)]
 pub struct Decider {
     pub own: bool,
     pub mode: u32,

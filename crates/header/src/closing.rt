@@ -10,7 +10,7 @@ use crate::shape::either_number;
 use bits::{Choices, Cursor, both, either, one_of, read_bits_if, read_bool_if};
 use numbers::read_u32_if;
 
-#[derive(Drop)]
+#[derive(Clone, Copy)]
 pub struct Closing {
     pub duration: u32,
     pub timecode: u32,
@@ -20,7 +20,7 @@ pub struct Closing {
     pub name_length: u32,
 }
 
-#[derive(Drop)]
+#[derive(Clone, Copy)]
 pub struct ClosingRead {
     pub value: Closing,
     pub next: Cursor,

@@ -21,7 +21,7 @@ use numbers::unpack_signed;
 use types::{BlendMode, Encoding, FrameFlags, FrameType};
 
 // The record with the bit place after the header, or a refusal beside the zero record.
-#[derive(Drop)]
+#[derive(Clone, Copy)]
 pub struct HeaderAnswer {
     pub header: FrameHeader,
     pub end: u64,

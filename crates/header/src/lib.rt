@@ -1,4 +1,6 @@
 // The frame header, from `src/header.rs`: its fields, in the file's order, the entry with its lent outputs, and the questions on a header.
+#![tactic(auto)]
+
 mod arrays;
 mod blending;
 mod cases;
@@ -22,7 +24,7 @@ use types::{Encoding, FrameFlags, FrameType};
 
 // What a reader of the frame knows about the image: its size, whether it is XYB or grey, how many extra channels it has, and whether it
 // is an animation with timecodes.
-#[derive(Drop)]
+#[derive(Clone, Copy)]
 pub struct Facts {
     pub width: u32,
     pub height: u32,
@@ -35,7 +37,7 @@ pub struct Facts {
 
 // The header's record: what the Rust's struct keeps, computed fields too; the name, the extra channels' upsampling and their blending are in the lent
 // buffers.
-#[derive(Drop)]
+#[derive(Clone, Copy)]
 pub struct FrameHeader {
     pub frame_type: FrameType,
     pub encoding: Encoding,

@@ -9,7 +9,7 @@ use bits::{Choices, Cursor, both, one_of, read_bits_if, read_bool_if};
 use numbers::{read_u32_if, read_u64_if};
 use types::FrameFlags;
 
-#[derive(Drop)]
+#[derive(Clone, Copy)]
 pub struct Opening {
     pub all_default: u32,
     pub frame_type: u32,
@@ -22,7 +22,7 @@ pub struct Opening {
     pub upsampling: u32,
 }
 
-#[derive(Drop)]
+#[derive(Clone, Copy)]
 pub struct OpeningRead {
     pub value: Opening,
     pub next: Cursor,

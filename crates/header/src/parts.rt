@@ -19,7 +19,7 @@ use numbers::read_extensions_if;
 use types::FrameFlags;
 
 // all_default to the frame's size.
-#[derive(Drop)]
+#[derive(Clone, Copy)]
 pub struct Front {
     pub opening: Opening,
     pub scales: Scales,
@@ -27,7 +27,7 @@ pub struct Front {
     pub placement: Placement,
 }
 
-#[derive(Drop)]
+#[derive(Clone, Copy)]
 pub struct FrontRead {
     pub value: Front,
     pub upsampling_at: Cursor,
@@ -35,14 +35,14 @@ pub struct FrontRead {
 }
 
 // Blending to the filters.
-#[derive(Drop)]
+#[derive(Clone, Copy)]
 pub struct Back {
     pub blending: Blending,
     pub closing: Closing,
     pub filter: RestorationFilter,
 }
 
-#[derive(Drop)]
+#[derive(Clone, Copy)]
 pub struct BackRead {
     pub value: Back,
     pub blending_at: Cursor,

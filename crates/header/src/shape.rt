@@ -11,7 +11,7 @@ use crate::opening::{Opening, upsampling_choices};
 use bits::{Choices, Cursor, both, one_of, read_bits_if, read_bool_if};
 use numbers::read_u32_if;
 
-#[derive(Drop)]
+#[derive(Clone, Copy)]
 pub struct Passes {
     pub num_passes: u32,
     pub num_ds: u32,
@@ -20,28 +20,28 @@ pub struct Passes {
     pub last_pass: [u32; 4],
 }
 
-#[derive(Drop)]
+#[derive(Clone, Copy)]
 pub struct PassesRead {
     pub value: Passes,
     pub next: Cursor,
 }
 
 // The group size and the quantizer scales.
-#[derive(Drop)]
+#[derive(Clone, Copy)]
 pub struct Scales {
     pub group_size_shift: u32,
     pub x_qm_scale: u32,
     pub b_qm_scale: u32,
 }
 
-#[derive(Drop)]
+#[derive(Clone, Copy)]
 pub struct ScalesRead {
     pub value: Scales,
     pub next: Cursor,
 }
 
 // The level of an LF frame, and where a frame lies; x0 and y0 as they are read, unsigned.
-#[derive(Drop)]
+#[derive(Clone, Copy)]
 pub struct Placement {
     pub lf_level: u32,
     pub have_crop: u32,
@@ -51,7 +51,7 @@ pub struct Placement {
     pub height: u32,
 }
 
-#[derive(Drop)]
+#[derive(Clone, Copy)]
 pub struct PlacementRead {
     pub value: Placement,
     pub next: Cursor,

@@ -1,11 +1,13 @@
 // A frame's layout: what the look-up of a sample needs of a frame, measured once. A viewer asks for many samples of one frame; through
 // the layout none of them judges the frame again. Any eight numbers are a layout, and every look-up ends.
+#![tactic(auto)]
+
 ghost use Rattle.std.specs.Prelude.{◌≡◌, ◌^◌, ◌<◌};
 ghost use Rattle.grid.specs.Groups.{index_at};
 ghost use Rattle.layout.specs.Layouts.{nowhere, layout_of, number_in, not_in, section_in};
 
 // The colour sample size, the power of two that is a group's side, the groups in a row, the counts, and how many passes there are.
-#[derive(Drop)]
+#[derive(Clone, Copy)]
 pub struct Layout {
     pub width: u32,
     pub height: u32,
@@ -18,7 +20,7 @@ pub struct Layout {
 }
 
 // A frame's layout, or why there is none.
-#[derive(Drop)]
+#[derive(Clone, Copy)]
 pub struct LayoutAnswer {
     pub layout: Layout,
     pub refusal: bits::Refusal,

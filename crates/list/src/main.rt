@@ -1,4 +1,6 @@
 // The listing program: a facts line and a frame on standard input, its listing on standard output.
+#![tactic(auto)]
+
 fn main() {
     // 32,768 bytes of a frame, and a facts line, which has at most 34 where its facts are within bounds. More input changes nothing of the text:
     // this and the length below are proved enough in crates/theorems/proofs/Arrays.antt.

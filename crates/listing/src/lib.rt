@@ -1,5 +1,7 @@
 // The listing of a frame's sections as text, written into lent bytes: a heading, a line a section, the total; and the two lines that stand
 // for it where there is no table. Each is put twice by one walk: into no room, to know its length, and then into the lent bytes.
+#![tactic(auto)]
+
 mod put;
 mod rows;
 
@@ -18,7 +20,7 @@ pub use rows::Row;
 use rows::{put_rows, sum_sizes};
 
 // How many bytes the text has, or why nothing was written (beside a refusal, 0).
-#[derive(Drop)]
+#[derive(Clone, Copy)]
 pub struct TextAnswer {
     pub length: usize,
     pub refusal: Refusal,

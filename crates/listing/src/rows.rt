@@ -12,7 +12,7 @@ use order::SectionNumber;
 use sections::KindNumbers;
 
 // What a section's line shows: its number, its kind as a number, its words of the three tables and its rectangle; 0 where a column has nothing.
-#[derive(Drop)]
+#[derive(Clone, Copy)]
 pub struct Row {
     pub section: u32,
     pub kind: u32,

@@ -9,14 +9,14 @@ use header::Facts;
 const COUNT: usize = 7;
 
 // Whether every number of a line is good, and the index behind the line.
-#[derive(Drop)]
+#[derive(Clone, Copy)]
 struct LineEnd {
     good: bool,
     next: usize,
 }
 
 // Whether the line is good, its facts, and the index behind it.
-#[derive(Drop)]
+#[derive(Clone, Copy)]
 pub struct FactsLine {
     pub good: bool,
     pub facts: Facts,

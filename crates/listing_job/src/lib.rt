@@ -1,4 +1,6 @@
 // The whole job of the listing program: from the bytes of its input, a facts line and a frame, to the bytes of its output.
+#![tactic(auto)]
+
 mod facts;
 
 ghost use Rattle.std.specs.Prelude.{min, length, take};

@@ -1,5 +1,7 @@
 // Numbers in their coded forms, each read at a cursor: U32, enums, U64, signed numbers, f16; and the two that keep no number, skips and
 // the extensions bundle. As below, a function given a cursor with a fault reads nothing and hands it on.
+#![tactic(auto)]
+
 mod halves;
 mod skips;
 mod wholes;

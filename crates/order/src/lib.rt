@@ -1,35 +1,37 @@
 // Orders of sections, as the rules for sections have them: order[section] = sent number (the Rust's `original_to_bitstream`), and its
 // inverse[sent number] = section (`bitstream_to_original`). What a lent order must be, and the two kinds of number, which only these two
 // tables turn into one another.
+#![tactic(auto)]
+
 ghost use Rattle.std.specs.Prelude.{◌≡◌, ◌&&◌, ◌≤◌, length};
 ghost use Rattle.order.specs.Order.{all_below, distinct, is_order, checked};
 ghost use Rattle.order.specs.Private.{Unmarked};
 ghost use Rattle.order.specs.Numbers.{entry_at, sent_of, section_of};
 
 // The number of a section in the frame's own sequence: LfGlobal, LfGroups, HfGlobal, then for each pass its groups.
-#[derive(Drop)]
+#[derive(Clone, Copy)]
 pub struct SectionNumber(pub u32);
 
 // The number of a section in the sequence in which it is sent.
-#[derive(Drop)]
+#[derive(Clone, Copy)]
 pub struct SentNumber(pub u32);
 
 // A word of an order table, or why there is none.
-#[derive(Drop)]
+#[derive(Clone, Copy)]
 struct Entry {
     word: u32,
     refusal: bits::Refusal,
 }
 
 // A section's sent number, or why there is none.
-#[derive(Drop)]
+#[derive(Clone, Copy)]
 pub struct SentAnswer {
     pub sent: SentNumber,
     pub refusal: bits::Refusal,
 }
 
 // The section of a sent number, or why there is none.
-#[derive(Drop)]
+#[derive(Clone, Copy)]
 pub struct SectionAnswer {
     pub section: SectionNumber,
     pub refusal: bits::Refusal,

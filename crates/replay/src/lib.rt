@@ -1,4 +1,6 @@
 // What the programs that run stored vectors share: numbers out of a record, tables to lend, tables in one number, and lines.
+#![tactic(auto)]
+
 mod lines;
 mod sums;
 mod tables;

@@ -5,7 +5,7 @@ ghost use Rattle.replay.specs.Words.{word_at, long_at, four_at, frame_at, sized}
 use grid::Frame;
 
 // Four numbers that stand one after the other.
-#[derive(Drop)]
+#[derive(Clone, Copy)]
 pub struct Numbers {
     pub a: u32,
     pub b: u32,

@@ -1,5 +1,7 @@
 // Runs the stored vectors of the bit reader: a record of 128 bytes each on standard input, a line of numbers each on standard output.
 // tools/vectors/bits.py wrote both files; it says where the vectors come from and what a record holds.
+#![tactic(auto)]
+
 use bits::{Choice, Choices, Cursor, Field, Sum};
 
 fn main() {

@@ -2,6 +2,8 @@
 // A record is 96 bytes: four words and 80 bytes of input. Word 0: 0 to 3 the bundle (1: asked for, 2: Modular), 4 the weights test on
 // words 1 and 2. For the bundle, words 1 to 3: the bit place, how many bytes are lent, and a fault that the cursor has already.
 // A line: the fault, its place, the cursor's place, the 25 values where nothing was refused, and all of them in one number.
+#![tactic(auto)]
+
 use filter::{EpfParams, Gabor};
 use replay::Numbers;
 

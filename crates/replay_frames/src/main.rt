@@ -4,6 +4,8 @@
 // coded form, two of no use, and how many bytes follow.
 // Lines: the header's refusal, its place and end, and the six numbers of its frame; the answer of each entry; then for each section
 // kind, pass, group, sent number, offset and size.
+#![tactic(auto)]
+
 use bits::Refusal;
 use grid::Frame;
 use header::Facts;
@@ -11,7 +13,7 @@ use order::SectionNumber;
 use toc::TocRead;
 
 // Where a header ends, and its frame.
-#[derive(Drop)]
+#[derive(Clone, Copy)]
 struct Beginning {
     end: u64,
     frame: Frame,

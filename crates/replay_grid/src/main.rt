@@ -1,5 +1,7 @@
 // Runs stored vectors through the crate `grid`: a record of 18 numbers in, a line of every function's answer out. The numbers are the frame's six,
 // an upsampling, a group, a point and two rectangles.
+#![tactic(auto)]
+
 use grid::{Frame, Number, Placed, Rect, Size, Touches};
 
 fn main() {

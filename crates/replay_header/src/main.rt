@@ -4,6 +4,8 @@
 // lent for name, upsampling and blending, and how many input bytes follow. For the questions: a number, and 64 bits of flags.
 // A line: refusal, its place, the end, where nothing was refused every number of the record, all of them in one number, and one number
 // for each lent buffer, what was not lent of it too.
+#![tactic(auto)]
+
 mod shown;
 
 use header::Facts;

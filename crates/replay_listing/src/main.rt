@@ -2,6 +2,8 @@
 // A record is three words, then bytes: how many bytes the input has, how many of them are given (the others are 0), and how many bytes are
 // lent for the output. Of each the program writes the answer (length, refusal, place) and a sum of the lent bytes behind the text, which
 // were 7, and then the text.
+#![tactic(auto)]
+
 
 fn main() {
     let mut r = [0u8; 12];

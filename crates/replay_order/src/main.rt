@@ -1,6 +1,8 @@
 // Runs stored vectors through the crate `order` and the inverse of `toc`, and prints what they answer, a line a record.
 // A record is 15 words: how the order is made (0 the given words; 1 reversed, with one word changed), its length, the count, the table's
 // length, a number, and ten words.
+#![tactic(auto)]
+
 use replay::Numbers;
 
 fn main() {

@@ -3,6 +3,8 @@
 // are given, how many there are, and the step of the bytes that are not given; the lengths of the four tables; how the order is made (0 the
 // given words, 1 reversed), its length; a section number; x, y and pass; a kind's number, pass and group. Then 64 bytes and 16 words of
 // an order, at words 32 and 48.
+#![tactic(auto)]
+
 use grid::Frame;
 use order::{SectionAnswer, SectionNumber, SentNumber};
 use sections::TocGroupKind;

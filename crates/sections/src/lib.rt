@@ -1,4 +1,6 @@
 // Kinds of section and what is asked of sections: the section of a kind or of a sample, the kind of a section, its bytes, and its sent number.
+#![tactic(auto)]
+
 mod kinds;
 mod lookups;
 
@@ -6,7 +8,7 @@ pub use kinds::{kind_numbers, kind_of, section_of_kind, section_of_sample};
 pub use lookups::{section_at, section_of_sent, sent_of_section};
 
 // The kind of a section.
-#[derive(Drop)]
+#[derive(Clone, Copy)]
 pub enum TocGroupKind {
     All,
     LfGlobal,
@@ -16,7 +18,7 @@ pub enum TocGroupKind {
 }
 
 // A kind as numbers: All 0, LfGlobal 1, LfGroup 2, HfGlobal 3, GroupPass 4, with its pass and its group (or LF group), else 0.
-#[derive(Drop)]
+#[derive(Clone, Copy)]
 pub struct KindNumbers {
     pub kind: u32,
     pub pass_idx: u32,
@@ -24,14 +26,14 @@ pub struct KindNumbers {
 }
 
 // A section's kind, or why there is none (beside a refusal, All).
-#[derive(Drop)]
+#[derive(Clone, Copy)]
 pub struct KindAnswer {
     pub kind: TocGroupKind,
     pub refusal: bits::Refusal,
 }
 
 // Where a section's data begins and how many bytes it has, or why that isn't known.
-#[derive(Drop)]
+#[derive(Clone, Copy)]
 pub struct SectionPlace {
     pub offset: u64,
     pub size: u32,

@@ -45,7 +45,7 @@ fn judge_place(s: &[u8], g: Grid, place: u64, room: bool) -> Refusal
 }
 
 // What the walk that judges comes to: the cursor after the first padding, the one after the last, and the sum of the sizes.
-#[derive(Drop)]
+#[derive(Clone, Copy)]
 struct Walk {
     first: Cursor,
     last: Cursor,
@@ -92,7 +92,7 @@ fn see_size(w: View) -> Seen
 }
 
 // Two sizes that follow each other, if they could be read at once, and the place behind them.
-#[derive(Drop)]
+#[derive(Clone, Copy)]
 struct Pair {
     there: bool,
     first: u32,
@@ -136,7 +136,7 @@ fn read_pair(s: &[u8], c: Cursor, on: bool) -> Pair
 }
 
 // What a walk over sizes comes to: the cursor behind them, and their sum.
-#[derive(Drop)]
+#[derive(Clone, Copy)]
 struct Summed {
     at: Cursor,
     total: u64,

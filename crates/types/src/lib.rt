@@ -1,8 +1,10 @@
 // The enums of a frame header and their questions. A question refuses nothing.
+#![tactic(auto)]
+
 ghost use Rattle.std.specs.Prelude.{◌≡◌};
 ghost use Rattle.types.specs.Types.{is_normal, is_lf, is_progressive, uses_alpha, noise, patches, splines, use_lf_frame, skip_adaptive_lf_smoothing};
 
-#[derive(Drop)]
+#[derive(Clone, Copy)]
 pub enum FrameType {
     RegularFrame,
     LfFrame,
@@ -10,13 +12,13 @@ pub enum FrameType {
     SkipProgressive,
 }
 
-#[derive(Drop)]
+#[derive(Clone, Copy)]
 pub enum Encoding {
     VarDct,
     Modular,
 }
 
-#[derive(Drop)]
+#[derive(Clone, Copy)]
 pub enum BlendMode {
     Replace,
     Add,
@@ -25,7 +27,7 @@ pub enum BlendMode {
     Mul,
 }
 
-#[derive(Drop)]
+#[derive(Clone, Copy)]
 pub struct FrameFlags(pub u64);
 
 impl FrameType {

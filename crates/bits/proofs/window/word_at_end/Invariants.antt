@@ -1,0 +1,12 @@
+-- `word_at_end`: after each turn the value is the bytes so far; behind the last there are zeros.
+use Rattle.std.proofs.Common.{◌≡◌, ℕ, ◌+◌, ◌-◌, ◌*◌, ◌%◌, ◌^◌, ◌≤◌, get_or, refl, ap, ◌∙◌, arith, rules}
+use lib.Bits.{bit_or}
+use Rattle.bits.specs.Bits.{bits_at}
+use Rattle.bits.proofs.Windows.{byte_more, all_bytes}
+use Rattle.bits.proofs.window.word_at_end.Given as goal
+
+abbrev pub invariant-loop-k : goal.invariant-loop-k
+invariant-loop-k l = (l.i ≤ l.k) × (l.k ≤ l.i + 8) × (l.shift ≡ 8 * (l.k - l.i)) × (l.v ≡ bits_at l.s (8 * l.i) (8 * (l.k - l.i)))
+
+abbrev pub decreases-loop-k : goal.decreases-loop-k
+decreases-loop-k l = l.end - l.k

@@ -1,0 +1,18 @@
+-- `fill_u64`: what is left of the walk is what is left to put.
+use borrow.Author.Rules.{rules}
+use Prim.Native.Nat.{◌-◌}
+use mathlib.Core.Path.{refl, sym}
+use Rattle.fill.proofs.Filling.{sets_past, Values, values_none, values_more, values_all}
+use Rattle.fill.proofs.fill_u64.Goals as goal
+
+pub returns-then-out-at : goal.returns-then-out-at
+returns-then-out-at c = sym (sets_past c.args.out.now c.args.longs.now c.args.at c.if-out-at.true)
+
+pub loop-i-init : goal.loop-i-init
+loop-i-init c = values_none 0 c.args.out.now c.args.at c.args.longs.now c.least-end.result c.least-end.ensures
+
+pub loop-i-preserved : goal.loop-i-preserved
+loop-i-preserved c = values_more 0 c.args.out.now c.args.at c.args.longs.now c.least-end.result c.loop-i.out c.loop-i.i c.loop-i.invariant c.loop-i-test.true _ refl
+
+pub returns : goal.returns
+returns c = values_all 0 c.args.out.now c.args.at c.args.longs.now c.least-end.result c.loop-i.out c.loop-i.i c.loop-i.invariant c.loop-i-test.false
