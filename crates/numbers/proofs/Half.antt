@@ -21,6 +21,10 @@ mul_values f (fin s' m e) (fin t' n g) s t a c b d hc hd v w =
     ∙ ap (λ (z : Bool). round f (unlike s z) (m * up e * (n * up g)) (down e * down g)) w.0
     ∙ round_same f (unlike s t) (m * up e * (n * up g)) (down e * down g) (a * b) (c * d) (mul-pos (down_pos e) (down_pos g)) (mul-pos hc hd)
     (mul-mul-mul_comm (m * up e) (n * up g) c d ∙ ap (λ (z : ℕ). z * (n * up g * d)) v.1 ∙ ap (λ (z : ℕ). a * down e * z) w.1 ∙ mul-mul-mul_comm a (down e) b (down g))
+mul_values f nan y s t a c b d hc hd v w = elim v [ ]
+mul_values f (inf _) y s t a c b d hc hd v w = elim v [ ]
+mul_values f (fin s' m e) nan s t a c b d hc hd v w = elim w [ ]
+mul_values f (fin s' m e) (inf _) s t a c b d hc hd v w = elim w [ ]
 
 plain : (t : Bool) → unlike false t ≡ t
 plain true = refl
@@ -152,6 +156,8 @@ mantissa_fits m h = le→leb m (2 ^ 24) (omega arith)
 finite : (x : Float) (s : Bool) (a c : ℕ) → HasValue x s a c → T (not (is_nan x))
 unfolding is_nan
 finite (fin t m e) s a c v = tt
+finite nan s a c v = elim v [ ]
+finite (inf _) s a c v = elim v [ ]
 
 -- it is a number
 pub half_finite : (h : ℕ) → T (not (is_nan (half h)))

@@ -1,0 +1,17 @@
+-- `find`: from each index reached on, the first such byte is the same one.
+use Prim.Native.Nat.{◌-◌}
+use mathlib.Core.Path.{◌≡◌, refl, sym, ◌∙◌}
+use lib.ListN.{length}
+use borrow.Author.Rules.{rules}
+use Rattle.decimal.specs.UpTo.{find_at}
+use Rattle.decimal.proofs.Finding.{find_here, find_further, find_end}
+use Rattle.decimal.proofs.find.Goals as goal
+
+pub returns-then-s-i : goal.returns-then-s-i
+returns-then-s-i c = find_here c.args.s.now c.args.stop c.loop-i.i c.loop-i-test.true c.if-s-i.true ∙ sym c.loop-i.invariant
+
+pub loop-i-preserved : goal.loop-i-preserved
+loop-i-preserved c = c.loop-i.invariant ∙ find_further c.args.s.now c.args.stop c.loop-i.i c.loop-i-test.true c.if-s-i.false
+
+pub returns : goal.returns
+returns c = find_end c.args.s.now c.args.stop c.loop-i.i c.loop-i-test.false ∙ sym c.loop-i.invariant

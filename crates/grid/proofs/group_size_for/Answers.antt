@@ -1,0 +1,8 @@
+-- `group_size_for`: the size of a rectangle.
+use mathlib.Core.Path.{◌∙◌, ap}
+use borrow.Author.Rules.{rules}
+use Rattle.grid.specs.Groups.{size_of}
+use Rattle.grid.proofs.group_size_for.Goals as goal
+
+pub returns : goal.returns
+returns c = c.size_of.ensures ∙ ap size_of c.group_rect.ensures

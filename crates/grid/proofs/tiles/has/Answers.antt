@@ -1,0 +1,7 @@
+-- `has`: a number below the product of columns and rows.
+use borrow.Author.Rules.{rules}
+use Rattle.grid.proofs.Answers.{has_by}
+use Rattle.grid.proofs.tiles.has.Goals as goal
+
+pub returns : goal.returns
+returns c = has_by c.args.g _ _ _ _ _ c.div_ceil-columns.ensures c.div_ceil-rows.ensures c.count.ensures

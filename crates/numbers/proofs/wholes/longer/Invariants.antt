@@ -1,0 +1,13 @@
+-- `longer`: what is left to read at a shift is what the definition has left there.
+use Rattle.std.proofs.Common.{◌≡◌, ℕ, ◌+◌, ◌-◌, ◌*◌, ◌/◌, ◌%◌, ◌^◌, ◌<◌, ◌≤◌, sym, refl, ap, ◌∙◌, arith, pow_mono, rules}
+use Rattle.bits.specs.Steps.{takes, run}
+use Rattle.bits.specs.Codec.{more, wide_of}
+use Rattle.bits.proofs.Steps.{run_take, run_cut, piece_lt}
+use Rattle.numbers.proofs.Long.{wide_given, more_cut, more_ends, more_cut_8, more_goes, more_lt}
+use Rattle.numbers.proofs.wholes.longer.Given as goal
+
+abbrev pub invariant-loop-shift : goal.invariant-loop-shift
+invariant-loop-shift l = (l.shift ≤ 60) × (l.shift % 8 ≡ 4) × (l.v < 2 ^ l.shift) × (run (takes 12 (more 6)) l.s l.p l.q ≡ run (more ((60 - l.shift) / 8) l.v) l.s l.p l.at)
+
+abbrev pub decreases-loop-shift : goal.decreases-loop-shift
+decreases-loop-shift l = 60 - l.shift
