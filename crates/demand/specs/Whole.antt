@@ -24,7 +24,8 @@ use Rattle.toc.specs.declared.Toc.{Toc}
 use Rattle.toc.specs.Sizes.{sent_before}
 use Rattle.toc.specs.Reading.{Tables}
 
--- ---- what the public functions answer: each name has on its right the definition that the function promises. `kind_of` answers kind_of.
+-- ---- what the public functions answer: each name has on its right the definition that the function promises. `kind_of` answers the definition of
+-- its name.
 
 -- `color_sample_width` and `color_sample_height`
 abbrev pub colour_width : Frame → Number
