@@ -1,0 +1,12 @@
+-- `sum_words`: what is left of the walk is what is left to sum.
+use Rattle.replay.proofs.Walks.{summing_none, summing_more, summing_all}
+use Rattle.replay.proofs.sums.sum_words.Goals as goal
+
+pub loop-i-init : goal.loop-i-init
+loop-i-init g c = summing_none (λ n. n) 0
+
+pub loop-i-preserved : goal.loop-i-preserved
+loop-i-preserved g c = summing_more (λ n. n) 0 c.loop-i.invariant c.loop-i-test.true _ (rw c.wide.ensures at c.step-all.ensures)
+
+pub returns : goal.returns
+returns g c = summing_all (λ n. n) 0 c.loop-i.invariant c.loop-i-test.false
