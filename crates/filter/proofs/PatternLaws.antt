@@ -27,6 +27,8 @@ unfolding pattern
 pattern_of (fin t m e) s n v =
     let whole : m * up e * 2 ^ 24 / down e ≡ n = ap (λ (z : ℕ). z / down e) v.1 ∙ mul-div_cancel n (down_pos e) in
     rw (whole, v.0)
+pattern_of lib.Ieee.nan s n v = elim v [ ]
+pattern_of (lib.Ieee.inf _) s n v = elim v [ ]
 
 size_is : (n k l : ℕ) → l ≡ suc k → 2 ^ k ≤ n → n < 2 ^ l → size n ≡ l
 size_is n k l next low high =

@@ -1,0 +1,7 @@
+-- `give_front`: each part from its place on.
+use borrow.Author.Rules.{rules}
+use Rattle.c_words.proofs.Recording.{front_put}
+use Rattle.c_words.proofs.heads.give_front.Goals as goal
+
+pub returns : goal.returns
+returns c = front_put c.args.a _ c.args.out.now _ _ _ c.front_words-front.ensures c.put_u64.ensures c.put_u64-2.ensures c.widen_u32.ensures

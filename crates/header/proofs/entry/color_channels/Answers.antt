@@ -1,0 +1,7 @@
+-- Grey, Modular, neither YCbCr nor XYB.
+use borrow.Author.Rules.{rules}
+use mathlib.Core.Path.{◌∙◌}
+use Rattle.header.proofs.entry.color_channels.Goals as goal
+
+pub returns : goal.returns
+returns c = c.either_number.ensures ∙ rw (c.both.ensures, c.both-coded.ensures, c.both-plain.ensures)

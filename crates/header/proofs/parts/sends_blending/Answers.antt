@@ -1,0 +1,7 @@
+-- Two tests.
+use borrow.Author.Rules.{rules}
+use mathlib.Core.Path.{◌∙◌}
+use Rattle.header.proofs.parts.sends_blending.Goals as goal
+
+pub returns : goal.returns
+returns c = c.both.ensures ∙ rw c.either.ensures

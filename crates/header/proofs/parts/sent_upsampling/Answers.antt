@@ -1,0 +1,7 @@
+-- All or none.
+use borrow.Author.Rules.{rules}
+use mathlib.Core.Path.{◌∙◌}
+use Rattle.header.proofs.parts.sent_upsampling.Goals as goal
+
+pub returns : goal.returns
+returns c = c.either_number.ensures ∙ rw (c.both.ensures, c.use_lf_frame-lf.ensures)

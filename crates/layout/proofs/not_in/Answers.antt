@@ -1,0 +1,7 @@
+-- `not_in`: refusal 14.
+use native.Mathlib.Omega.{arith}
+use borrow.Author.Rules.{rules}
+use Rattle.layout.proofs.not_in.Goals as goal
+
+pub returns : goal.returns
+returns c = rw c.refused.ensures

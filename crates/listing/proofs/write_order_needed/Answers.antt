@@ -1,0 +1,8 @@
+-- `write_order_needed`: the line by its definition.
+use borrow.Author.Rules.{rules}
+use Rattle.listing.specs.Text.{order_text}
+use Rattle.listing.proofs.write_order_needed.Goals as goal
+
+pub returns : goal.returns
+unfolding order_text
+returns c = c.write_line.ensures

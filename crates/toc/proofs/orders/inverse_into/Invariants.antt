@@ -1,0 +1,10 @@
+-- `inverse_into`: what the sections that are left make of the table is what all make of it.
+use Rattle.std.proofs.Common.{◌-◌, take, arith, rules}
+use Rattle.order.proofs.Placed.{Placing, placing_none, placing_more, placing_all}
+use Rattle.toc.proofs.orders.inverse_into.Given as goal
+
+abbrev pub invariant-loop-j : goal.invariant-loop-j
+invariant-loop-j l = Placing (λ k. k) (take l.count l.order) l.initial.inverse l.inverse l.j
+
+abbrev pub decreases-loop-j : goal.decreases-loop-j
+decreases-loop-j l = l.count - l.j
