@@ -6,8 +6,7 @@ ghost use Rattle.c_words.specs.Contents.{roomed_reading, Listed};
 use c_words::{frame, give_toc, no_room, status};
 
 // The first entry: reads the permuted flag, then the sizes; a flag of 1 is "order needed".
-#[unsafe(no_mangle)]
-pub extern "C" fn hingevale_read_toc(
+pub fn hingevale_read_toc(
     s: &[u8],
     width: u32,
     height: u32,
@@ -42,8 +41,7 @@ pub extern "C" fn hingevale_read_toc(
 }
 
 // The second entry: a place and a lent order, on from the padding.
-#[unsafe(no_mangle)]
-pub extern "C" fn hingevale_read_toc_with_order(
+pub fn hingevale_read_toc_with_order(
     s: &[u8],
     width: u32,
     height: u32,

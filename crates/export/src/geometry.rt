@@ -7,8 +7,7 @@ ghost use Rattle.c_words.specs.Records.{frame, rect, number_answer, placed_answe
 use c_words::{frame, give_grid, give_number, give_rect, give_touch, region};
 
 // The grid: colour sample size, sides, columns, rows and counts.
-#[unsafe(no_mangle)]
-pub extern "C" fn hingevale_measure(
+pub fn hingevale_measure(
     width: u32,
     height: u32,
     upsampling: u32,
@@ -31,8 +30,7 @@ pub extern "C" fn hingevale_measure(
 }
 
 // The width in samples for an upsampling.
-#[unsafe(no_mangle)]
-pub extern "C" fn hingevale_sample_width(
+pub fn hingevale_sample_width(
     width: u32,
     height: u32,
     upsampling: u32,
@@ -56,8 +54,7 @@ pub extern "C" fn hingevale_sample_width(
 }
 
 // The height in samples for an upsampling.
-#[unsafe(no_mangle)]
-pub extern "C" fn hingevale_sample_height(
+pub fn hingevale_sample_height(
     width: u32,
     height: u32,
     upsampling: u32,
@@ -81,8 +78,7 @@ pub extern "C" fn hingevale_sample_height(
 }
 
 // The clipped rectangle of a group.
-#[unsafe(no_mangle)]
-pub extern "C" fn hingevale_group_rect(
+pub fn hingevale_group_rect(
     width: u32,
     height: u32,
     upsampling: u32,
@@ -106,8 +102,7 @@ pub extern "C" fn hingevale_group_rect(
 }
 
 // The clipped rectangle of an LF group.
-#[unsafe(no_mangle)]
-pub extern "C" fn hingevale_lf_group_rect(
+pub fn hingevale_lf_group_rect(
     width: u32,
     height: u32,
     upsampling: u32,
@@ -131,8 +126,7 @@ pub extern "C" fn hingevale_lf_group_rect(
 }
 
 // The group of a point.
-#[unsafe(no_mangle)]
-pub extern "C" fn hingevale_group_idx_from_coord(
+pub fn hingevale_group_idx_from_coord(
     width: u32,
     height: u32,
     upsampling: u32,
@@ -157,8 +151,7 @@ pub extern "C" fn hingevale_group_idx_from_coord(
 }
 
 // The LF group that holds a group.
-#[unsafe(no_mangle)]
-pub extern "C" fn hingevale_lf_group_idx_from_group_idx(
+pub fn hingevale_lf_group_idx_from_group_idx(
     width: u32,
     height: u32,
     upsampling: u32,
@@ -182,8 +175,7 @@ pub extern "C" fn hingevale_lf_group_idx_from_group_idx(
 }
 
 // Whether a region overlaps a group, unclipped.
-#[unsafe(no_mangle)]
-pub extern "C" fn hingevale_is_group_collides_region(
+pub fn hingevale_is_group_collides_region(
     width: u32,
     height: u32,
     upsampling: u32,
@@ -214,8 +206,7 @@ pub extern "C" fn hingevale_is_group_collides_region(
 }
 
 // Whether a region overlaps an LF group, unclipped.
-#[unsafe(no_mangle)]
-pub extern "C" fn hingevale_is_lf_group_collides_region(
+pub fn hingevale_is_lf_group_collides_region(
     width: u32,
     height: u32,
     upsampling: u32,

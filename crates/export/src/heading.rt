@@ -5,8 +5,7 @@ use c_words::{give_record, has_room, no_record, status};
 use header::Facts;
 
 // The header entry: 2, 1, 3, then the first fault in reading order.
-#[unsafe(no_mangle)]
-pub extern "C" fn hingevale_read_frame_header(
+pub fn hingevale_read_frame_header(
     s: &[u8],
     width: u32,
     height: u32,

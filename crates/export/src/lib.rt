@@ -1,5 +1,6 @@
-// The C functions of the static library, over numbers and lent slices. A function that can refuse answers one status word, and hands a
-// record out as words in lent slices, which only an acceptance writes. `include/hingevale.h` declares them, with the order of the words.
+// What the C functions of the static library do, over numbers and lent slices; the crate `export_c` gives each its symbol. A function that
+// can refuse answers one status word, and hands a record out as words in lent slices, which only an acceptance writes.
+// `include/hingevale.h` declares them, with the order of the words.
 #![tactic(auto)]
 
 mod contents;

@@ -22,8 +22,7 @@ fn give_length(a: TextAnswer, out: &mut [u64]) -> u64
 }
 
 // What the program `list` writes for an input; 3 where a lent slice is too short.
-#[unsafe(no_mangle)]
-pub extern "C" fn hingevale_list(input: &[u8], text: &mut [u8], out: &mut [u64]) -> u64
+pub fn hingevale_list(input: &[u8], text: &mut [u8], out: &mut [u64]) -> u64
     ensures { Told (untold (ltb (length out.old) 1) (job_text input.now) text.old) (job_text input.now) text.old text.new out.old out.new result }
 {
     if out.len() < 1 {

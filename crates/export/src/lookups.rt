@@ -13,8 +13,7 @@ use c_words::{
 use order::{SectionNumber, SentNumber};
 
 // A kind, by its number, pass and group, to its section number.
-#[unsafe(no_mangle)]
-pub extern "C" fn hingevale_section_of_kind(
+pub fn hingevale_section_of_kind(
     width: u32,
     height: u32,
     upsampling: u32,
@@ -40,8 +39,7 @@ pub extern "C" fn hingevale_section_of_kind(
 }
 
 // A section number to its kind.
-#[unsafe(no_mangle)]
-pub extern "C" fn hingevale_kind_of(
+pub fn hingevale_kind_of(
     width: u32,
     height: u32,
     upsampling: u32,
@@ -65,8 +63,7 @@ pub extern "C" fn hingevale_kind_of(
 }
 
 // A sample and a pass to their section number.
-#[unsafe(no_mangle)]
-pub extern "C" fn hingevale_section_of_sample(
+pub fn hingevale_section_of_sample(
     width: u32,
     height: u32,
     upsampling: u32,
@@ -92,8 +89,7 @@ pub extern "C" fn hingevale_section_of_sample(
 }
 
 // A frame's layout: what a look-up of a sample needs of the frame, measured once.
-#[unsafe(no_mangle)]
-pub extern "C" fn hingevale_layout_of(
+pub fn hingevale_layout_of(
     width: u32,
     height: u32,
     upsampling: u32,
@@ -116,22 +112,14 @@ pub extern "C" fn hingevale_layout_of(
 }
 
 // A sample and a pass to their section number, by a layout's words.
-#[unsafe(no_mangle)]
-pub extern "C" fn hingevale_section_in(
-    words: &[u64],
-    x: u32,
-    y: u32,
-    pass: u32,
-    out: &mut [u64],
-) -> u64
+pub fn hingevale_section_in(words: &[u64], x: u32, y: u32, pass: u32, out: &mut [u64]) -> u64
     ensures { Given (section_answer (section_by words.now x y pass)) out.old result out.new }
 {
     give_section(section_by(words, x, y, pass), out)
 }
 
 // A section number to its offset and size, through tables that an entry filled.
-#[unsafe(no_mangle)]
-pub extern "C" fn hingevale_section_at(
+pub fn hingevale_section_at(
     width: u32,
     height: u32,
     upsampling: u32,
@@ -160,8 +148,7 @@ pub extern "C" fn hingevale_section_at(
 }
 
 // A section number to its sent number, through the order.
-#[unsafe(no_mangle)]
-pub extern "C" fn hingevale_sent_of_section(
+pub fn hingevale_sent_of_section(
     width: u32,
     height: u32,
     upsampling: u32,
@@ -189,8 +176,7 @@ pub extern "C" fn hingevale_sent_of_section(
 }
 
 // A sent number to its section number, through the inverse.
-#[unsafe(no_mangle)]
-pub extern "C" fn hingevale_section_of_sent(
+pub fn hingevale_section_of_sent(
     width: u32,
     height: u32,
     upsampling: u32,

@@ -7,8 +7,7 @@ ghost use Rattle.export.specs.Asked.{keyframe, referable};
 use types::FrameFlags;
 
 // Whether the frame is shown: normal, and the last or of some duration.
-#[unsafe(no_mangle)]
-pub extern "C" fn hingevale_is_keyframe(frame_type: u32, is_last: bool, duration: u32) -> bool
+pub fn hingevale_is_keyframe(frame_type: u32, is_last: bool, duration: u32) -> bool
     ensures { result ≡ keyframe frame_type is_last duration }
 {
     let normal = bits::either(frame_type == 0, frame_type == 3);
@@ -16,8 +15,7 @@ pub extern "C" fn hingevale_is_keyframe(frame_type: u32, is_last: bool, duration
 }
 
 // Whether other frames can refer to it: not the last, of no duration or saved, and no LF frame.
-#[unsafe(no_mangle)]
-pub extern "C" fn hingevale_can_reference(
+pub fn hingevale_can_reference(
     frame_type: u32,
     is_last: bool,
     duration: u32,
@@ -31,36 +29,31 @@ pub extern "C" fn hingevale_can_reference(
 }
 
 // The flag questions.
-#[unsafe(no_mangle)]
-pub extern "C" fn hingevale_noise(flags: u64) -> bool
+pub fn hingevale_noise(flags: u64) -> bool
     ensures { result ≡ noise flags }
 {
     FrameFlags(flags).noise()
 }
 
-#[unsafe(no_mangle)]
-pub extern "C" fn hingevale_patches(flags: u64) -> bool
+pub fn hingevale_patches(flags: u64) -> bool
     ensures { result ≡ patches flags }
 {
     FrameFlags(flags).patches()
 }
 
-#[unsafe(no_mangle)]
-pub extern "C" fn hingevale_splines(flags: u64) -> bool
+pub fn hingevale_splines(flags: u64) -> bool
     ensures { result ≡ splines flags }
 {
     FrameFlags(flags).splines()
 }
 
-#[unsafe(no_mangle)]
-pub extern "C" fn hingevale_use_lf_frame(flags: u64) -> bool
+pub fn hingevale_use_lf_frame(flags: u64) -> bool
     ensures { result ≡ use_lf_frame flags }
 {
     FrameFlags(flags).use_lf_frame()
 }
 
-#[unsafe(no_mangle)]
-pub extern "C" fn hingevale_skip_adaptive_lf_smoothing(flags: u64) -> bool
+pub fn hingevale_skip_adaptive_lf_smoothing(flags: u64) -> bool
     ensures { result ≡ skip_adaptive_lf_smoothing flags }
 {
     FrameFlags(flags).skip_adaptive_lf_smoothing()

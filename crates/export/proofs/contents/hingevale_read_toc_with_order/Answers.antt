@@ -1,0 +1,17 @@
+-- `hingevale_read_toc_with_order`: too few words, or the second entry.
+use borrow.Author.Rules.{rules}
+use Rattle.toc.specs.Reading.{Tables, tables, second_reading}
+use Rattle.toc.proofs.Accepted.{second_telling}
+use Rattle.export.proofs.Listing.{listed_short, listed}
+use Rattle.export.proofs.contents.hingevale_read_toc_with_order.Goals as goal
+
+pub returns-then-out-lt3 : goal.returns-then-out-lt3
+returns-then-out-lt3 c = listed_short c.args.s.now _ _ c.frame-f.ensures (λ f. second_reading c.args.s.now f c.args.place c.args.lent.now (tables c.args.offsets.now c.args.sizes.now c.args.order.now c.args.inverse.now)) (tables c.args.offsets.now c.args.sizes.now c.args.order.now c.args.inverse.now) c.args.out.now c.if-out-lt3.true _ c.no_room.ensures _ c.status.ensures
+
+pub returns : goal.returns
+returns c =
+    let a = c.args in
+    let lent : Tables = tables a.offsets.now a.sizes.now a.order.now a.inverse.now in
+    let f = c.frame-f in
+    listed a.s.now _ _ f.ensures (λ f. second_reading a.s.now f a.place a.lent.now lent) lent a.out.now c.if-out-lt3.false c.read_toc_with_order-t.result _ _ _ _ _ _
+    (second_telling a.s.now f.result a.place lent a.lent.now) c.read_toc_with_order-t.ensures c.give_toc.ensures

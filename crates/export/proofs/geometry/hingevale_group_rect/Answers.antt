@@ -1,0 +1,10 @@
+-- `hingevale_group_rect`: the crate below answers.
+use borrow.Author.Rules.{rules}
+use Rattle.grid.specs.Measured.{grid_of}
+use Rattle.grid.specs.Groups.{rect_for}
+use Rattle.c_words.specs.Records.{placed_answer}
+use Rattle.export.proofs.Asking.{asked}
+use Rattle.export.proofs.geometry.hingevale_group_rect.Goals as goal
+
+pub returns : goal.returns
+returns c = asked placed_answer (λ f. rect_for (grid_of f) (grid_of f).side c.args.group_idx) c.frame-f.ensures c.group_rect.ensures c.give_rect.ensures

@@ -1,0 +1,10 @@
+-- `hingevale_is_lf_group_collides_region`: the crate below answers.
+use borrow.Author.Rules.{rules}
+use Rattle.grid.specs.Measured.{grid_of}
+use Rattle.grid.specs.Groups.{touch_for}
+use Rattle.c_words.specs.Records.{touch_answer}
+use Rattle.export.proofs.Asking.{asked_of}
+use Rattle.export.proofs.geometry.hingevale_is_lf_group_collides_region.Goals as goal
+
+pub returns : goal.returns
+returns c = asked_of touch_answer (λ f a. touch_for (grid_of f) (grid_of f).lf_side c.args.lf_group_idx a) c.frame-f.ensures c.region.ensures c.is_lf_group_collides_region.ensures c.give_touch.ensures

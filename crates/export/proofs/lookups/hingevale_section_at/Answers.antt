@@ -1,0 +1,9 @@
+-- `hingevale_section_at`: the crate below answers.
+use borrow.Author.Rules.{rules}
+use Rattle.sections.specs.Lookups.{place_of}
+use Rattle.c_words.specs.Records.{place_answer, section_number}
+use Rattle.export.proofs.Asking.{asked}
+use Rattle.export.proofs.lookups.hingevale_section_at.Goals as goal
+
+pub returns : goal.returns
+returns c = asked place_answer (λ f. place_of f c.args.offsets.now c.args.sizes.now (section_number c.args.section)) c.frame-f.ensures c.section_at.ensures c.give_place.ensures

@@ -1,0 +1,9 @@
+-- `hingevale_sent_of_section`: the crate below answers.
+use borrow.Author.Rules.{rules}
+use Rattle.sections.specs.Lookups.{sent_of_section}
+use Rattle.c_words.specs.Records.{sent_answer, section_number}
+use Rattle.export.proofs.Asking.{asked}
+use Rattle.export.proofs.lookups.hingevale_sent_of_section.Goals as goal
+
+pub returns : goal.returns
+returns c = asked sent_answer (λ f. sent_of_section f c.args.order.now (section_number c.args.section)) c.frame-f.ensures c.sent_of_section.ensures c.give_sent.ensures
