@@ -1,3 +1,4 @@
 pub mod Counts
+pub mod Outputs
 pub mod Sums
 pub mod Words

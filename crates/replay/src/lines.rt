@@ -1,7 +1,9 @@
-// Numbers on a program's output, and a program's input. No clause can say what standard output takes or what standard input gives; what a
-// program writes is compared with its file `stdout`.
-ghost use Rattle.std.specs.Prelude.{IfOk};
+// Numbers on a program's output, and a program's input. The clauses say what a writer gains whose bytes are known. Of standard output no clause
+// can say it; what a program writes is compared with its file `stdout`.
+ghost use Rattle.std.specs.Prelude.{◌≡◌, [], ◌∷◌, ◌++◌, true, IfOk, IsOk, OnOk};
+ghost use Rattle.std.specs.Fmt.{decimal};
 ghost use Rattle.replay.specs.Counts.{IsPrefixLen};
+ghost use Rattle.replay.specs.Outputs.{shown, shown_by, Gains};
 
 use crate::sums::wide;
 use bits::Refusal;
@@ -17,7 +19,9 @@ pub struct Output<W = BufWriter<Stdout>> {
 }
 
 // Standard output, with a buffer in front.
-pub fn buffered(alloc: Global, to: Stdout) -> io::Result<Output> {
+pub fn buffered(alloc: Global, to: Stdout) -> io::Result<Output>
+    ensures { IfOk result (λ out. IsOk out.failed) }
+{
     Ok(Output {
         to: BufWriter::new(alloc, to)?,
         failed: Ok(()),
@@ -26,14 +30,18 @@ pub fn buffered(alloc: Global, to: Stdout) -> io::Result<Output> {
 
 impl<W: Write> Output<W> {
     // Some bytes.
-    pub fn text(&mut self, text: &[u8]) {
+    pub fn text(&mut self, text: &[u8])
+        ensures { Gains W.contents self.old text.now self.new }
+    {
         if self.failed.is_ok() {
             self.failed = self.to.write_all(text);
         }
     }
 
     // A number, with nothing behind it.
-    pub fn decimal(&mut self, n: u64) {
+    pub fn decimal(&mut self, n: u64)
+        ensures { Gains W.contents self.old (decimal n) self.new }
+    {
         if self.failed.is_ok() {
             self.failed = write!(self.to, "{n}");
         }
@@ -43,6 +51,7 @@ impl<W: Write> Output<W> {
     pub fn finish(mut self) -> io::Result<()>
     where
         W: Drop,
+        ensures { OnOk result (IsOk self.failed) }
     {
         self.failed?;
         self.to.flush()
@@ -50,13 +59,17 @@ impl<W: Write> Output<W> {
 }
 
 // A number and a tab.
-pub fn show<W: Write>(out: &mut Output<W>, n: u64) {
+pub fn show<W: Write>(out: &mut Output<W>, n: u64)
+    ensures { Gains W.contents out.old (shown n) out.new }
+{
     out.decimal(n);
     out.text(b"\t");
 }
 
 // Each of some numbers and a tab.
-pub fn cells<W: Write>(out: &mut Output<W>, xs: &[u32]) {
+pub fn cells<W: Write>(out: &mut Output<W>, xs: &[u32])
+    ensures { Gains W.contents out.old (shown_by (λ n. n) true xs.now) out.new }
+{
     let mut i: usize = 0;
     while i < xs.len() {
         show(out, wide(xs[i]));
@@ -65,13 +78,17 @@ pub fn cells<W: Write>(out: &mut Output<W>, xs: &[u32]) {
 }
 
 // A refusal's number and its place.
-pub fn refusal<W: Write>(out: &mut Output<W>, r: Refusal) {
+pub fn refusal<W: Write>(out: &mut Output<W>, r: Refusal)
+    ensures { Gains W.contents out.old (shown r.number ++ shown r.place) out.new }
+{
     show(out, r.number as u64);
     show(out, r.place);
 }
 
 // The end of a line.
-pub fn end<W: Write>(out: &mut Output<W>) {
+pub fn end<W: Write>(out: &mut Output<W>)
+    ensures { Gains W.contents out.old (10 ∷ []) out.new }
+{
     out.text(b"\n");
 }
 

@@ -1,6 +1,7 @@
 // All numbers of a table in one, so that a table of 65,536 takes a cell. There are two such sums: the big one takes numbers of 32 bits as they
 // are and leaves a number of 52 bits.
-ghost use Rattle.std.specs.Prelude.{◌≡◌};
+ghost use Rattle.std.specs.Prelude.{◌≡◌, [], if◌then◌else◌};
+ghost use Rattle.replay.specs.Outputs.{shown, shown_by, Gains};
 ghost use Rattle.replay.specs.Sums.{mixed, summed, summed_by, pattern};
 
 use crate::lines::{Output, show};
@@ -18,7 +19,8 @@ fn mix(big: bool, sum: u64, n: u64) -> u64
 
 // The same, and the number is shown where all are.
 fn step<W: Write>(out: &mut Output<W>, big: bool, full: bool, sum: u64, n: u64) -> u64
-    ensures { result ≡ mixed big sum n }
+    ensures value { result ≡ mixed big sum n }
+    ensures output { Gains W.contents out.old (if full then shown n else []) out.new }
 {
     if full {
         show(out, n);
@@ -51,7 +53,8 @@ pub fn sum_bytes(big: bool, sum: u64, xs: &[u8]) -> u64
 }
 
 pub fn sum_words<W: Write>(out: &mut Output<W>, big: bool, full: bool, sum: u64, xs: &[u32]) -> u64
-    ensures { result ≡ summed big sum xs.now }
+    ensures value { result ≡ summed big sum xs.now }
+    ensures output { Gains W.contents out.old (shown_by (λ n. n) full xs.now) out.new }
 {
     let mut all = sum;
     let mut i: usize = 0;
@@ -63,7 +66,8 @@ pub fn sum_words<W: Write>(out: &mut Output<W>, big: bool, full: bool, sum: u64,
 }
 
 pub fn sum_longs<W: Write>(out: &mut Output<W>, big: bool, full: bool, sum: u64, xs: &[u64]) -> u64
-    ensures { result ≡ summed big sum xs.now }
+    ensures value { result ≡ summed big sum xs.now }
+    ensures output { Gains W.contents out.old (shown_by (λ n. n) full xs.now) out.new }
 {
     let mut all = sum;
     let mut i: usize = 0;
@@ -83,7 +87,8 @@ pub fn pattern(x: f32) -> u32
 
 // Each value by its bits.
 pub fn sum_floats<W: Write>(out: &mut Output<W>, big: bool, full: bool, sum: u64, xs: &[f32]) -> u64
-    ensures { result ≡ summed_by pattern big sum xs.now }
+    ensures value { result ≡ summed_by pattern big sum xs.now }
+    ensures output { Gains W.contents out.old (shown_by pattern full xs.now) out.new }
 {
     let mut all = sum;
     let mut i: usize = 0;
