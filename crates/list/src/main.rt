@@ -1,7 +1,8 @@
 // The listing program: a facts line and a frame on standard input, its listing on standard output.
 #![tactic(auto)]
 
-ghost use Rattle.std.specs.Prelude.{◌≤◌, length, IfOk};
+ghost use Rattle.std.specs.Prelude.{◌<◌, ◌≤◌, length, take, IfOk};
+ghost use Rattle.std.specs.Io.KnownBytes.{Consumes, IsAtEnd};
 
 use std::io;
 use std::io::{Read, Write};
@@ -18,9 +19,11 @@ fn main(rt: HostRuntime) -> io::Result<()> {
     rt.stdout().write_all(&out[..length])
 }
 
-// Reads until the buffer is full or the input ends, and answers how many bytes came.
-fn read_full(input: &mut impl Read, buf: &mut [u8]) -> io::Result<usize>
-    ensures { IfOk result (λ n. n ≤ length buf.new) }
+// Reads until the buffer is full or the input ends, and answers how many bytes came. They stand at the front.
+fn read_full<R: Read>(input: &mut R, buf: &mut [u8]) -> io::Result<usize>
+    ensures in_bounds { IfOk result (λ n. n ≤ length buf.new) }
+    ensures bytes { IfOk result (λ n. Consumes (R.remaining input.old) (R.remaining input.new) (take n buf.new)) }
+    ensures end { IfOk result (λ n. n < length buf.new → IsAtEnd (R.remaining input.new)) }
 {
     let mut done: usize = 0;
     while done < buf.len() {
