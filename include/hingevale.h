@@ -11,7 +11,7 @@
  * 8 bad frame record, 9 zero size, 10 over 65,536 sections, 11 place after the end, 12 padding isn't zero, 13 bad order, 14 the frame has no such
  * group, kind, sample, pass or section. Each function's comment has the order in which they are given.
  *
- * Link libexport.a, which `rt staticlib export` writes to target/staticlib. */
+ * Link libexport.a, which `tools/staticlib` writes to target/staticlib. */
 #ifndef HINGEVALE_H
 #define HINGEVALE_H
 

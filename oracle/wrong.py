@@ -1,7 +1,7 @@
 #!/usr/bin/env python3
 """Shows that the comparison would find a difference: each line below makes a copy of the Rust wrong in one place, and `compare` must say so.
 
-    python3 oracle/wrong.py [WORDS]      after `rt staticlib export`; some minutes, or those alone whose line has the words
+    python3 oracle/wrong.py [WORDS]      after `tools/staticlib`; some minutes, or those alone whose line has the words
 
 The copies are made under target/wrong; nothing under oracle/ is changed.
 """

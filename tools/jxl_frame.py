@@ -3,7 +3,7 @@
 
     tools/jxl_frame.py FILE.jxl > input          the facts line, then the frame's bytes (32,768 of them, or all there are)
     tools/jxl_frame.py --all FILE.jxl > input    the same with every byte up to the end of the codestream
-    tools/jxl_frame.py --list FILE.jxl           hands that to the listing program (target/bin/list) and shows what it writes
+    tools/jxl_frame.py --list FILE.jxl           hands that to the listing program (crates/list/out/list) and shows what it writes
     tools/jxl_frame.py --facts FILE.jxl          the facts, and where the frame begins, in words
 
 FILE is a bare codestream or a container, as encoders write them. This script is a convenience written from ISO/IEC 18181-1. It isn't
@@ -19,7 +19,7 @@ sys.dont_write_bytecode = True
 from jxl_entropy import Refused, icc_profile
 
 USED = 32768                      # as many bytes of a frame as the listing program uses
-LISTING = pathlib.Path(__file__).resolve().parent.parent / 'target/bin/list'
+LISTING = pathlib.Path(__file__).resolve().parent.parent / 'crates/list/out/list'
 
 
 @dataclasses.dataclass
@@ -266,7 +266,7 @@ def main(words):
     if flags != ['--list']:
         sys.stdout.buffer.write(out)
     elif not LISTING.exists():
-        raise Refused('target/bin/list is not there: `rt check list` makes it')
+        raise Refused('crates/list/out/list is not there: `rt run` in crates/list makes it')
     else:
         sys.exit(subprocess.run([LISTING], input=out).returncode)
 

@@ -3,8 +3,8 @@
 
 A promise is looked at as text: for the answer and for the final content of each lent `&mut` it has one equation whose right side speaks of what
 was passed alone (no answer, no final content), so that the law `once` (crates/bits/proofs/Once.antt) gives equality; or it is a record of such
-equations, for which a law named after it (`done-once` for `Done`) stands in some crate's proofs and is proved by `once`. An equation for what an
-answer tells (`kindTold r`) counts as one for the answer where a law named after it says so (`kind-once`). Prints what it found, every function for
+equations, for which a law named after it (`done_once` for `Done`) stands in some crate's proofs and is proved by `once`. An equation for what an
+answer tells (`kind_told result`) counts as one for the answer where a law named after it says so (`kind_once`). Prints what it found, every function for
 which none holds, and every function that docs/PROMISES.md doesn't name.
 """
 import glob
@@ -17,22 +17,29 @@ def public(crate):
     """The names that a crate hands out, and each `pub fn` with its module."""
     lib = open(f'crates/{crate}/src/lib.rt', encoding='utf-8').read()
     shown = set(re.findall(r'^pub use (\w+)::(\w+);', lib, re.M))
+    for module, names in re.findall(r'^pub use (\w+)::\{([^}]*)\};', lib, re.M):
+        shown |= {(module, name) for name in re.findall(r'\w+', names)}
     for path in sorted(glob.glob(f'crates/{crate}/src/*.rt')):
         module = os.path.basename(path)[:-3]
         text = open(path, encoding='utf-8').read()
-        for m in re.finditer(r'^ *pub (?:extern "C" )?fn (\w+)', text, re.M):
-            if module == 'lib' or (module, m.group(1)) in shown:
-                yield m.group(1), text[m.start():]
+        for m in re.finditer(r'^ *pub (extern "C" )?fn (\w+)', text, re.M):
+            if module == 'lib' or m.group(1) or (module, m.group(2)) in shown:
+                yield m.group(2), text[m.start():]
 
 
 def parts(text):
     """The parameters, whether there is an answer, and the promise of a function's text."""
     body = text.index('{') if '{' in text else len(text)
     if 'ensures' not in text[:body]:
-        return re.findall(r'(\w+): &mut', text[:body]), '->' in text[:body], 'r', ''
+        return re.findall(r'(\w+): &mut', text[:body]), '->' in text[:body], ''
     head, clause = text[:text.index('ensures')], text[text.index('ensures'):]
-    inside = clause[clause.index('⌜') + 1:clause.index('⌝')].strip()
-    return re.findall(r'(\w+): &mut', head), '->' in head, re.search(r'λ (\S+)\.', clause).group(1), ' '.join(inside.split())
+    depth, end = 0, clause.index('{')
+    for end in range(clause.index('{'), len(clause)):
+        depth += (clause[end] == '{') - (clause[end] == '}')
+        if depth == 0:
+            break
+    inside = clause[clause.index('{') + 1:end].strip()
+    return re.findall(r'(\w+): &mut', head), '->' in head, ' '.join(inside.split())
 
 
 def conjuncts(text):
@@ -70,16 +77,16 @@ def main():
         for name, text in public(crate):
             if not re.search(rf'^\|[^|]*`{name}[`(]', page, re.M):
                 wrong.append(f'{crate}::{name}: not in docs/PROMISES.md')
-            lent, answers, bound, promise = parts(text)
-            due = {f'now ({p} .exit)' for p in lent} | ({bound} if answers else set())
+            lent, answers, promise = parts(text)
+            due = {f'{p}.new' for p in lent} | ({'result'} if answers else set())
             found = set()
             for c in conjuncts(promise):
                 left, _, right = (x.strip() for x in c.partition('≡'))
-                if right and not re.search(rf'\.exit|(?<![\w.«]){re.escape(bound)}(?![\w»])', right):
-                    tells = re.fullmatch(rf'(\w+)Told {re.escape(bound)}', left)
-                    if tells and re.search(rf'^pub {tells.group(1)}-once :', laws, re.M):
-                        left = bound
-                    found.add(strip(left) if left != bound else left)
+                if right and not re.search(r'\.new\b|(?<![\w.])result(?!\w)', right):
+                    tells = re.fullmatch(r'(\w+)_told result', left)
+                    if tells and re.search(rf'^pub {tells.group(1)}_once :', laws, re.M):
+                        left = 'result'
+                    found.add(strip(left))
             record = re.match(r'([A-Z]\w*) ', promise)
             if not due:
                 counts['having no answer and nothing lent'] += 1
@@ -87,7 +94,7 @@ def main():
                 counts['one equation'] += 1
             elif found == due:
                 counts['several equations'] += 1
-            elif record and re.search(rf'^pub {record.group(1).lower()}-once :', laws, re.M):
+            elif record and re.search(rf'^pub {record.group(1).lower()}_once :', laws, re.M):
                 counts['a record with its law'] += 1
             else:
                 wrong.append(f'{crate}::{name}: {promise[:120]}')

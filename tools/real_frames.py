@@ -11,7 +11,7 @@ decoded by tools/jxl_entropy.py, and where the same picture was also written wit
 Where the listing program is built (`rt check list`), its listing of each file's first frame is compared too.
 
 Needs cjxl (libjxl-tools), for `--store` nothing else; for the first form also a built oracle:
-    rt staticlib export && cargo build --release --offline --manifest-path oracle/Cargo.toml
+    tools/staticlib && cargo build --release --offline --manifest-path oracle/Cargo.toml
 """
 import pathlib
 import shutil

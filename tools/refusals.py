@@ -1,6 +1,6 @@
 #!/usr/bin/env python3
-"""Holds docs/PROMISES.md to what the prover said of the wrong programs. Run it at the project's root after `rt ci` (or `rt must-fail`), which
-leaves a log of each edit under target/must-fail/.
+"""Holds docs/PROMISES.md to what the prover said of the wrong programs. Run it at the project's root after `tools/edits.py`, which leaves all that
+the prover said of each edit under target/must-fail/.
 
 An edit changes many functions at once: a caller is proved against what its callees promise, not against their code, so each changed function is
 refused for its own sake, whatever becomes of the others. The gate is content with one of them refused; so an edit names its functions (`refuses:`),
@@ -8,8 +8,7 @@ and each has to be refused by itself: its own proof has an error at a fact (not 
 the edit took away), or it has no proof file and the search closes one of its needs no longer. So does each law that an edit of definitions names (`laws:`).
 
 Then, for every row of a table of PROMISES.md with the column `wrong answers tried`: each function of the first column is named by at least two edits of its
-crate in the gate, and refused by itself in both. --more looks at the edits under must-fail/more instead (see tools/more.py), which are only asked
-to be refused at a fact.
+crate, and refused by itself in both. An edit that names neither functions nor laws is only asked to be refused at a fact.
 """
 import glob
 import os
@@ -35,30 +34,29 @@ def rows():
 def refused(crate, text):
     """The functions that are refused for their own sake, and those that are refused at a name."""
     facts, names = set(), set()
-    for proof, error in re.findall(r'^\S+?/proofs/(\S+?)/Proof\.antt:\d+:\d+: error: (.*)', text, re.M):
+    for proof, error in re.findall(r'^\S+?/proofs/(\S+?)/(?:Answers|Invariants|Proof)\.antt:\d+:\d+: error: (.*)', text, re.M):
         function = proof.split('/')[-1]
-        if 'was not admitted' in error:
+        if 'was not admitted' in error or 'was rejected' in error:
             continue
         (names if re.search('that can be named from here|has no field', error) else facts).add(function)
     for path, rest in re.findall(rf'^fn {crate}::(\S+): no proof: (.*)', text, re.M):
-        if 'does not close' in rest:
+        if 'did not prove' in rest:
             facts.add(path.split('::')[-1])
     return facts, names - facts
 
 
 def main():
-    more = '--more' in sys.argv
     wrong, by, edits = [], {}, 0
-    for path in sorted(glob.glob('crates/*/must-fail/more/*.edit' if more else 'crates/*/must-fail/*.edit')):
+    for path in sorted(glob.glob('crates/*/must-fail/*.edit')):
         crate, name = path.split('/')[1], os.path.basename(path)[:-5]
         edits += 1
-        log = f'target/{"more" if more else "must-fail"}/{crate}/{name}/.log'
+        log = f'target/must-fail/{crate}/{name}/.log'
         if not os.path.exists(log):
             wrong.append(f'{crate}/{name}: no log')
             continue
         text = open(log, encoding='utf-8').read()
         facts, names = refused(crate, text)
-        laws = {n for n, e in re.findall(r'^\S+?/proofs/\w+\.antt:\d+:\d+: error: `([^`]+)`: (.*)', text, re.M) if 'was not admitted' not in e}
+        laws = {n for n, e in re.findall(r'^\S+?/proofs/\w+\.antt:\d+:\d+: error: `([^`]+)`: (.*)', text, re.M) if 'was not admitted' not in e and 'was rejected' not in e}
         for n in sorted(names):
             wrong.append(f'{crate}/{name}: {n} is refused at a name, not at a fact')
         if not facts and not laws:
@@ -72,7 +70,7 @@ def main():
             if function not in facts:
                 wrong.append(f'{crate}/{name}: {function} is not refused by itself')
     functions = 0
-    for crate, cells in [] if more else rows():
+    for crate, cells in rows():
         for function in re.findall(r'`(\w+)[^`]*`', cells[0]):
             functions += 1
             if len(by.get((crate, function), [])) < 2:

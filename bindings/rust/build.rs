@@ -1,4 +1,4 @@
-// Links target/staticlib/libexport.a of the repository, which `rt staticlib export` writes; HINGEVALE_LIB names another folder.
+// Links target/staticlib/libexport.a of the repository, which `tools/staticlib` writes; HINGEVALE_LIB names another folder.
 use std::path::PathBuf;
 
 fn main() {
@@ -10,7 +10,7 @@ fn main() {
     let library = folder.join("libexport.a");
     assert!(
         library.exists(),
-        "{} isn't there: run `rt staticlib export` first",
+        "{} isn't there: run `tools/staticlib` first",
         library.display()
     );
     println!("cargo:rustc-link-search=native={}", folder.display());

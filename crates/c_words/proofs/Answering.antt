@@ -1,16 +1,15 @@
 -- What the functions that end a C function come to: refusal 3 in its turn, and a record's words.
-use Prim.Native.Nat.{ℕ, ◌≤◌}
-use mathlib.Core.Path.{◌≡◌, refl, sym, ◌∙◌, ap, subst}
+use Prim.Native.Nat.{ℕ}
+use mathlib.Core.Path.{◌≡◌, ◌∙◌, ap}
 use mathlib.Core.Bool.{Bool, true, false, not, ◌&&◌, ◌||◌}
 use mathlib.Core.List.{List}
-use lib.Dec.{leb, ltb, eqb}
-use lib.ListN.{length}
+use lib.Dec.{leb, eqb}
 use lib.Seq.{sets}
 use borrow.Author.Tests.{eq-eqb, ne_eqb, not-true, not-false}
 use Rattle.bits.specs.declared.Refusal.{Refusal}
 use Rattle.bits.specs.Refusals.{refusal}
 use Rattle.c_words.specs.Status.{status_of, is_early, roomed}
-use Rattle.c_words.specs.Answers.{Answer, answer, refusal_for, Given}
+use Rattle.c_words.specs.Answers.{Answer, refusal_for, Given}
 
 pub early_by : (n : ℕ) (a b c : Bool) → a ≡ (leb 1 n && leb n 2) → b ≡ (leb 8 n && leb n 10) → c ≡ (a || b) → c ≡ is_early n
 early_by n a b c ea eb ec = ec ∙ rw (ea, eb)

@@ -1,12 +1,12 @@
 -- The header's record as words, and what is refused for want of room.
 use Prim.Native.Nat.{ℕ, ◌<◌}
-use mathlib.Core.Path.{◌≡◌, refl, ◌∙◌, ap}
-use mathlib.Core.Bool.{Bool, true, false, not, ◌&&◌}
+use mathlib.Core.Path.{◌≡◌, refl, ◌∙◌}
+use mathlib.Core.Bool.{Bool, true, false, ◌&&◌}
 use mathlib.Core.List.{List, [], ◌∷◌}
 use lib.Dec.{leb, ltb, eqb}
 use lib.Ieee.{Float}
 use lib.IntN.{ℤ}
-use lib.ListN.{length, set}
+use lib.ListN.{set}
 use lib.Seq.{sets}
 use borrow.Author.Tests.{eq-eqb, ne_eqb, lt-ltb}
 use Rattle.bits.specs.declared.Refusal.{Refusal}
@@ -18,7 +18,7 @@ use Rattle.header.specs.declared.entry.HeaderAnswer.{HeaderAnswer}
 use Rattle.header.specs.Header.{Header}
 use Rattle.header.specs.Record.{numbers_of}
 use Rattle.types.specs.Types.{frame_type_number, encoding_number, blend_mode_number}
-use Rattle.header.specs.Entry.{bad_facts, judged, stands, told, answered, refused_header, Headed}
+use Rattle.header.specs.Entry.{bad_facts, judged, told, answered, refused_header}
 use Rattle.c_words.specs.Status.{status_of}
 use Rattle.c_words.specs.Records.{bit}
 use Rattle.c_words.specs.Heading.{front_words, back_words, front_after, arrays_after, words_after, signed_after, floats_after, HandedOut, record_room, no_record}

@@ -11,7 +11,7 @@ use lib.Seq.{sets, length-sets, get_or-set_same, get_or-set_other}
 use borrow.Author.Tests.{eqb-true, eqb-false, leb-true, ltb-false}
 use Rattle.fill.proofs.Filling.{sets_inside, sets_outside}
 use Rattle.bits.specs.declared.Refusal.{Refusal}
-use Rattle.bits.specs.Refusals.{pick, refusal}
+use Rattle.bits.specs.Refusals.{pick}
 use Rattle.grid.specs.declared.Frame.{Frame}
 use Rattle.grid.specs.Measured.{upsamples, good_record}
 use Rattle.grid.proofs.Accepted.{Good, good, and_parts}

@@ -1,9 +1,7 @@
 -- P1 to P12: bytes, facts or numbers, and what is due of the definitions that the public functions promise. One record, a field an example.
-use Rattle.std.specs.Prelude.{ℕ, ◌≡◌, Bool, true, false, List, [], ◌∷◌, ◌++◌, ℤ, pos, negsuc, length, Float}
+use Rattle.std.specs.Prelude.{ℕ, ◌≡◌, true, false, List, [], ◌∷◌, ◌++◌, pos, negsuc, length}
 use Prim.Native.Char.{code}
 use Prim.Native.String.{String, [] as []ˢ, ◌∷◌ as ◌∷ˢ◌}
-use Rattle.bits.specs.declared.Refusal.{Refusal}
-use Rattle.bits.specs.declared.Cursor.{Cursor}
 use Rattle.bits.specs.Refusals.{refusal, none, start}
 use Rattle.bits.specs.Codec.{signed}
 use Rattle.bits.specs.Table.{read}
@@ -13,7 +11,6 @@ use Rattle.grid.specs.declared.Frame.{Frame}
 use Rattle.grid.specs.Sizes.{sections}
 use Rattle.grid.specs.Measured.{grid_of}
 use Rattle.grid.specs.Groups.{rect_for}
-use Rattle.order.specs.declared.SectionNumber.{SectionNumber}
 use Rattle.types.specs.declared.FrameType.TheVariants.{RegularFrame}
 use Rattle.types.specs.declared.Encoding.TheVariants.{VarDct, Modular}
 use Rattle.types.specs.declared.BlendMode.TheVariants.{Replace}

@@ -35,7 +35,6 @@ use Rattle.header.specs.declared.shape.PassesRead.{PassesRead}
 use Rattle.header.specs.declared.shape.Scales.{Scales}
 use Rattle.header.specs.declared.shape.ScalesRead.{ScalesRead}
 use Rattle.header.specs.declared.shape.PlacementRead.{PlacementRead}
-use Rattle.header.specs.Shape.{passes, scales, placement}
 use Rattle.filter.specs.Filter.{filter_default}
 
 -- what was read of a bundle, and the cursor after it

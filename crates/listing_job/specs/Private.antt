@@ -3,7 +3,7 @@ use Rattle.std.specs.Prelude.{ℕ, ◌≤◌, ◌≡◌, List, length, drop}
 use Rattle.std.proofs.lemmas.List.Edits.{sets}
 use Rattle.listing_job.specs.declared.facts.LineEnd.{LineEnd}
 use Rattle.listing_job.specs.declared.facts.FactsLine.{FactsLine}
-use Rattle.listing_job.specs.Line.{limits, line_read, good_line, facts_of, frame_bytes}
+use Rattle.listing_job.specs.Line.{line_read, good_line, facts_of, frame_bytes}
 
 -- what the private functions promise. The numbers of a line:
 pub record Valued (s limits before : List ℕ) (r : LineEnd) (after : List ℕ) : Type 0 where

@@ -1,7 +1,6 @@
 -- f16: the f32 of a pattern is the number that it stands for, and the code's product is that f32.
-use Rattle.std.proofs.Common.{◌≡◌, ℕ, zero, suc, ◌+◌, ◌-◌, ◌*◌, ◌/◌, ◌%◌, ◌^◌, ◌<◌, ◌≤◌, Bool, true, false, cond, not, T, eqb, ltb, leb, pos, sym, refl, ap, ◌∙◌, le_trans, lt_of_lt_of_le, lt_of_le_of_lt, add-zero, mod-lt, mod-eq_of_lt, zero-lt-suc, mul_assoc, mul_comm, mul-le-mul_left, mul-lt-mul_of_pos_right, mul-pos, one-mul, mul-one, mul_left_comm, arith, lit<, lit≤, le→leb, pow_pos, pow_mono, pow-add, shl_exact, le-ltb, eq-eqb, ne_eqb, le-leb}
+use Rattle.std.proofs.Common.{◌≡◌, ℕ, zero, suc, ◌+◌, ◌-◌, ◌*◌, ◌/◌, ◌%◌, ◌^◌, ◌<◌, ◌≤◌, Bool, true, false, not, T, eqb, leb, pos, sym, refl, ap, ◌∙◌, le_trans, lt_of_lt_of_le, mod-lt, mod-eq_of_lt, mul_assoc, mul-le-mul_left, mul-lt-mul_of_pos_right, mul-pos, mul-one, mul_left_comm, arith, lit<, lit≤, le→leb, pow_pos, pow_mono, pow-add, shl_exact, le-ltb, eq-eqb, ne_eqb, le-leb}
 use native.Mathlib.Nat.{mul-mul-mul_comm}
-use lib.Dec.{not_T}
 use lib.Bits.{bit_and, bit_or, and_mask, and_le_r, or_shifted}
 use lib.Ieee.{Float, nan, inf, fin, Format, binary32, up, down, unlike, odd, round, mul, of_int, of_fields, of_bits, in_float, nan_bits, is_nan}
 use lib.Ieee.Bits.{nan_bits_above}
@@ -10,7 +9,6 @@ use lib.Ieee.Back.{round_whole}
 use lib.Ieee.Fits.{down_pos}
 use lib.Ieee.Scale.{round_same}
 use borrow.Author.Tests.{lt-leb}
-use Rattle.bits.specs.Refusals.{pick}
 use Rattle.bits.specs.Half.{negative, exponent, fraction, scaled, half}
 
 -- a product of two numbers is rounded once, from their fractions

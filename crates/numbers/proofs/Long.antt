@@ -1,12 +1,12 @@
 -- Laws of the long U64: a continuation bit, then one piece more at its shift.
-use Rattle.std.proofs.Common.{◌≡◌, ℕ, zero, suc, ◌+◌, ◌-◌, ◌*◌, ◌/◌, ◌%◌, ◌^◌, ◌<◌, ◌≤◌, Bool, true, false, not, List, sym, refl, ap, ◌∙◌, add_comm, arith, pow_mono, pow-add, shl_exact, eq-eqb, ne_eqb}
+use Rattle.std.proofs.Common.{◌≡◌, ℕ, zero, suc, ◌+◌, ◌-◌, ◌*◌, ◌/◌, ◌%◌, ◌^◌, ◌<◌, ◌≤◌, true, false, not, List, sym, ap, ◌∙◌, add_comm, arith, pow-add, shl_exact, eq-eqb, ne_eqb}
 use lib.Arith.{digits_lt}
 use lib.Bits.{bit_or, or_shifted_r}
 use Rattle.bits.specs.declared.pieces.Piece.{Piece}
 use Rattle.bits.specs.declared.Cursor.{Cursor}
 use Rattle.bits.specs.declared.Wide.{Wide}
 use Rattle.bits.specs.Refusals.{start}
-use Rattle.bits.specs.Steps.{Steps, gives, refuses, takes, cut_at, run, piece}
+use Rattle.bits.specs.Steps.{gives, takes, cut_at, run, piece}
 use Rattle.bits.specs.Codec.{more, long, wide_of}
 use Rattle.bits.proofs.Steps.{run_take, run_cut, piece_lt}
 

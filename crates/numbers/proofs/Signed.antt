@@ -1,5 +1,5 @@
 -- The signed reading of a 32-bit number: half of it, and for an odd one that half negated and one less.
-use Rattle.std.proofs.Common.{◌≡◌, ℕ, zero, suc, ◌+◌, ◌-◌, ◌/◌, ◌%◌, ◌^◌, ◌<◌, ◌≤◌, ℤ, pos, negsuc, ◌+ℤ◌, ◌-ℤ◌, neg_ℤ, sym, refl, ap, ◌∙◌, add-zero, arith, lit<, w32, SFits, to_z, of_z, eq-eqb, ne_eqb}
+use Rattle.std.proofs.Common.{◌≡◌, ℕ, zero, suc, ◌+◌, ◌/◌, ◌%◌, ◌^◌, ◌<◌, ℤ, pos, negsuc, ◌-ℤ◌, neg_ℤ, sym, refl, ap, ◌∙◌, add-zero, arith, w32, SFits, to_z, of_z, eq-eqb, ne_eqb}
 use lib.IntN.{+ℤ_idl}
 use lib.Signed.{mag}
 use mir.ValLaws.{to_z_pos, to_z-of_z}

@@ -8,7 +8,7 @@ use borrow.Author.Tests.{eqb-true}
 use Rattle.bits.specs.Refusals.{pick}
 use Rattle.grid.specs.declared.Frame.{Frame}
 use Rattle.grid.specs.declared.Grid.{Grid}
-use Rattle.grid.specs.Sizes.{color_width, color_height, group_side, lf_side, count, sections_of, sections}
+use Rattle.grid.specs.Sizes.{color_width, color_height, group_side, lf_side, count, sections_of}
 use Rattle.grid.specs.Measured.{laid, grid_of}
 use Rattle.grid.specs.Groups.{index_at}
 use Rattle.grid.proofs.Accepted.{Accepted, accepted, and_parts}

@@ -17,7 +17,6 @@ use Rattle.grid.proofs.Answers.{judge_known}
 use Rattle.order.specs.declared.SectionNumber.{SectionNumber}
 use Rattle.order.specs.declared.SectionAnswer.{SectionAnswer}
 use Rattle.order.proofs.Entries.{and_both}
-use Rattle.order.specs.Tables.{filled}
 use Rattle.order.proofs.Tables.{filled_length}
 use Rattle.toc.specs.declared.Toc.{Toc}
 use Rattle.sections.specs.declared.TocGroupKind.TheVariants.{GroupPass}

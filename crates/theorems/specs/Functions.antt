@@ -2,7 +2,6 @@
 -- named after its function, and is a law of the files of proofs/; `every_function` of proofs/Functions.antt has them all.
 use Rattle.std.specs.Prelude.{ℕ, ◌≡◌, List, Bool, true, false, ltb, length}
 use Rattle.bits.specs.declared.Refusal.{Refusal}
-use Rattle.bits.specs.Refusals.{refusal}
 use Rattle.bits.specs.declared.Cursor.{Cursor}
 use Rattle.bits.specs.Bits.{bit_count}
 use Rattle.bits.specs.Table.{read, failed}

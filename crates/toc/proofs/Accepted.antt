@@ -13,7 +13,7 @@ use Rattle.grid.specs.declared.Frame.{Frame}
 use Rattle.grid.specs.declared.Grid.{Grid}
 use Rattle.grid.specs.Measured.{grid_of}
 use Rattle.order.specs.Order.{is_order, checked}
-use Rattle.order.specs.Tables.{tabulate, identity, filled}
+use Rattle.order.specs.Tables.{tabulate, identity}
 use Rattle.order.proofs.Entries.{split}
 use Rattle.order.proofs.Inverse.{identity_order}
 use Rattle.order.proofs.Tables.{length_tabulate, get_d_tabulate}

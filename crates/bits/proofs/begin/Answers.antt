@@ -1,5 +1,5 @@
 -- `begin`: a cursor whose fault is what `accepted` answers.
-use Rattle.std.proofs.Common.{ap, rules}
+use Rattle.std.proofs.Common.{ap}
 use Rattle.bits.specs.declared.Refusal.{Refusal}
 use Rattle.bits.specs.declared.Cursor.{Cursor}
 use Rattle.bits.proofs.begin.Goals as goal

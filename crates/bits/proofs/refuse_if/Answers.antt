@@ -1,5 +1,5 @@
 -- `refuse_if`: passed by, or a fault at a place not before the start.
-use Rattle.std.proofs.Common.{ap, ◌∙◌, rules}
+use Rattle.std.proofs.Common.{ap, ◌∙◌}
 use Rattle.bits.specs.declared.Refusal.{Refusal}
 use Rattle.bits.proofs.Tables.{failed_not, failed_at}
 use Rattle.bits.proofs.refuse_if.Goals as goal

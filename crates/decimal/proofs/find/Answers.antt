@@ -1,9 +1,5 @@
 -- `find`: from each index reached on, the first such byte is the same one.
-use Prim.Native.Nat.{◌-◌}
-use mathlib.Core.Path.{◌≡◌, refl, sym, ◌∙◌}
-use lib.ListN.{length}
-use borrow.Author.Rules.{rules}
-use Rattle.decimal.specs.UpTo.{find_at}
+use mathlib.Core.Path.{sym, ◌∙◌}
 use Rattle.decimal.proofs.Finding.{find_here, find_further, find_end}
 use Rattle.decimal.proofs.find.Goals as goal
 

@@ -1,10 +1,8 @@
 -- `find`: from each index reached on, the first such byte is the same one.
 use Prim.Native.Nat.{◌-◌}
-use mathlib.Core.Path.{◌≡◌, refl, sym, ◌∙◌}
+use mathlib.Core.Path.{◌≡◌}
 use lib.ListN.{length}
-use borrow.Author.Rules.{rules}
 use Rattle.decimal.specs.UpTo.{find_at}
-use Rattle.decimal.proofs.Finding.{find_here, find_further, find_end}
 use Rattle.decimal.proofs.find.Given as goal
 
 abbrev pub invariant-loop-i : goal.invariant-loop-i

@@ -1,5 +1,4 @@
 -- `leads`: by the length.
-use borrow.Author.Rules.{rules}
 use Rattle.decimal.proofs.Scanning.{leads_none, leads_one, leads_many}
 use Rattle.decimal.proofs.leads.Goals as goal
 

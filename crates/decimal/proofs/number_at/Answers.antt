@@ -1,5 +1,4 @@
 -- `number_at`: no end, or what stands before it.
-use borrow.Author.Rules.{rules}
 use Rattle.decimal.proofs.Finding.{stepped_not, stepped_is}
 use Rattle.decimal.proofs.number_at.Goals as goal
 

@@ -1,11 +1,9 @@
 -- `read_number`: what is left of the text is what the definition has left to judge.
-use Prim.Native.Nat.{◌-◌}
 use native.Mathlib.Omega.{arith}
 use mathlib.Core.Path.{refl, sym, ◌∙◌}
-use lib.ListN.{length, get_or}
-use borrow.Author.Rules.{rules}
+use lib.ListN.{get_or}
 use borrow.Author.Tests.{not-true, not-false, leb-true}
-use Rattle.decimal.proofs.Scanning.{Scans, scans_none, headless, scans_end, scans_other, scans_large, scans_more, digit_small}
+use Rattle.decimal.proofs.Scanning.{scans_none, headless, scans_end, scans_other, scans_large, scans_more, digit_small}
 use Rattle.std.proofs.lemmas.Bool.{not_from_false, not_from_true}
 use Rattle.decimal.proofs.read_number.Goals as goal
 

@@ -1,7 +1,6 @@
 -- `write_number`: the digits of what is left are still to stand in front of what is written.
 use native.Mathlib.Omega.{arith}
-use borrow.Author.Rules.{rules}
-use Rattle.decimal.proofs.Spelling.{Spells, spells_none, spells_at, spells_more, spells_last}
+use Rattle.decimal.proofs.Spelling.{spells_none, spells_at, spells_more, spells_last}
 use Rattle.decimal.proofs.write_number.Goals as goal
 
 pub loop-rest-init : goal.loop-rest-init

@@ -1,7 +1,5 @@
 -- `write_number`: the digits of what is left are still to stand in front of what is written.
-use native.Mathlib.Omega.{arith}
-use borrow.Author.Rules.{rules}
-use Rattle.decimal.proofs.Spelling.{Spells, spells_none, spells_at, spells_more, spells_last}
+use Rattle.decimal.proofs.Spelling.{Spells}
 use Rattle.decimal.proofs.write_number.Given as goal
 
 abbrev pub invariant-loop-rest : goal.invariant-loop-rest

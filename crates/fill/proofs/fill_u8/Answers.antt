@@ -1,8 +1,6 @@
 -- `fill_u8`: what is left of the walk is what is left to put.
-use borrow.Author.Rules.{rules}
-use Prim.Native.Nat.{◌-◌}
 use mathlib.Core.Path.{refl, sym}
-use Rattle.fill.proofs.Filling.{sets_past, Values, values_none, values_more, values_all}
+use Rattle.fill.proofs.Filling.{sets_past, values_none, values_more, values_all}
 use Rattle.fill.proofs.fill_u8.Goals as goal
 
 pub returns-then-out-at : goal.returns-then-out-at

@@ -1,5 +1,4 @@
 -- A place that the slice hasn't changes nothing.
-use borrow.Author.Rules.{rules}
 use mathlib.Core.Path.{sym}
 use lib.Seq.{set_out}
 use Rattle.fill.proofs.put_u32.Goals as goal

@@ -1,5 +1,4 @@
 -- Both are the default ones.
-use borrow.Author.Rules.{rules}
 use Rattle.filter.proofs.FilterLaws.{both_default}
 use Rattle.filter.proofs.default_filter.Goals as goal
 

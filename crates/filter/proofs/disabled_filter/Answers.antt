@@ -1,5 +1,4 @@
 -- Both are disabled.
-use borrow.Author.Rules.{rules}
 use Rattle.filter.proofs.FilterLaws.{both_disabled}
 use Rattle.filter.proofs.disabled_filter.Goals as goal
 

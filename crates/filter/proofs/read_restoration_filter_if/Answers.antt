@@ -1,5 +1,4 @@
 -- `read_restoration_filter_if`: nothing is sent, or one call a row or a bundle, by the law of its table.
-use borrow.Author.Rules.{rules}
 use Rattle.filter.proofs.FilterLaws.{filter_is, filter_unread}
 use Rattle.std.proofs.lemmas.Bool.{not_from_false}
 use Rattle.filter.proofs.read_restoration_filter_if.Goals as goal

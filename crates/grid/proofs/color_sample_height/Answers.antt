@@ -1,5 +1,4 @@
 -- `color_sample_height`: a number of the grid, through the check.
-use borrow.Author.Rules.{rules}
 use Rattle.grid.specs.Groups.{told}
 use Rattle.grid.proofs.Answers.{asked}
 use Rattle.grid.proofs.color_sample_height.Goals as goal

@@ -1,5 +1,4 @@
 -- `color_sample_width`: a number of the grid, through the check.
-use borrow.Author.Rules.{rules}
 use Rattle.grid.specs.Groups.{told}
 use Rattle.grid.proofs.Answers.{asked}
 use Rattle.grid.proofs.color_sample_width.Goals as goal

@@ -1,6 +1,5 @@
 -- `group_idx_from_coord`: an accepted frame has a side, and the number of a point's group is below the count.
 use native.Mathlib.Omega.{arith}
-use borrow.Author.Rules.{rules}
 use Rattle.grid.proofs.Accepted.{sound}
 use Rattle.grid.proofs.Lookups.{index_own, index_no, index_yes, index_lt}
 use Rattle.grid.proofs.group_idx_from_coord.Goals as goal

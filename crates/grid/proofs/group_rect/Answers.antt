@@ -1,5 +1,4 @@
 -- `group_rect`: the rectangle of a side, through the check.
-use borrow.Author.Rules.{rules}
 use Rattle.grid.specs.Groups.{rect_for}
 use Rattle.grid.proofs.Answers.{asked}
 use Rattle.grid.proofs.group_rect.Goals as goal

@@ -1,6 +1,5 @@
 -- `group_size_for`: the size of a rectangle.
 use mathlib.Core.Path.{◌∙◌, ap}
-use borrow.Author.Rules.{rules}
 use Rattle.grid.specs.Groups.{size_of}
 use Rattle.grid.proofs.group_size_for.Goals as goal
 

@@ -1,5 +1,4 @@
 -- `groups_per_row`: a number of the grid, through the check.
-use borrow.Author.Rules.{rules}
 use Rattle.grid.specs.Groups.{told}
 use Rattle.grid.proofs.Answers.{asked}
 use Rattle.grid.proofs.groups_per_row.Goals as goal

@@ -1,5 +1,4 @@
 -- `is_good`: seven tests, and the law that they are the definition's.
-use borrow.Author.Rules.{rules}
 use Rattle.grid.proofs.Steps.{record_good}
 use Rattle.grid.proofs.is_good.Goals as goal
 

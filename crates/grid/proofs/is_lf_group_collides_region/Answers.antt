@@ -1,5 +1,4 @@
 -- `is_lf_group_collides_region`: the question of a side, through the check.
-use borrow.Author.Rules.{rules}
 use Rattle.grid.specs.Groups.{touch_for}
 use Rattle.grid.proofs.Answers.{asked}
 use Rattle.grid.proofs.is_lf_group_collides_region.Goals as goal

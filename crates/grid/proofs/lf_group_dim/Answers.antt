@@ -1,5 +1,4 @@
 -- `lf_group_dim`: a number of the grid, through the check.
-use borrow.Author.Rules.{rules}
 use Rattle.grid.specs.Groups.{told}
 use Rattle.grid.proofs.Answers.{asked}
 use Rattle.grid.proofs.lf_group_dim.Goals as goal

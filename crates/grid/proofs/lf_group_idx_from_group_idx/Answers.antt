@@ -1,6 +1,5 @@
 -- `lf_group_idx_from_group_idx`: an accepted frame has a column, and the answer is no larger than the group's number.
 use native.Mathlib.Omega.{arith}
-use borrow.Author.Rules.{rules}
 use Rattle.grid.proofs.Lookups.{lf_index_le, allowed, lf_no, lf_yes}
 use Rattle.grid.proofs.lf_group_idx_from_group_idx.Goals as goal
 

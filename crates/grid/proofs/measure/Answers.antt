@@ -1,7 +1,6 @@
 -- `measure`: the check's ways, one law each.
 use mathlib.Core.Path.{sym, ◌∙◌}
 use borrow.Author.Tests.{not-false}
-use borrow.Author.Rules.{rules}
 use Rattle.grid.proofs.Steps.{judged_bad, judged_zero, judged_counted}
 use Rattle.std.proofs.lemmas.Bool.{not_from_false, not_from_true}
 use Rattle.grid.proofs.measure.Goals as goal

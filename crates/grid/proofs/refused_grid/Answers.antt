@@ -1,5 +1,4 @@
 -- `refused_grid`: all numbers 0.
-use borrow.Author.Rules.{rules}
 use Rattle.grid.proofs.Steps.{grid_refused}
 use Rattle.grid.proofs.refused_grid.Goals as goal
 

@@ -1,5 +1,4 @@
 -- `sample`: with nothing to divide by, and with an upsampling; the shift is a power of eight.
-use borrow.Author.Rules.{rules}
 use Rattle.grid.proofs.Steps.{sample_plain, sample_divided}
 use Rattle.grid.proofs.sample.Goals as goal
 

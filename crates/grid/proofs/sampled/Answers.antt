@@ -1,5 +1,4 @@
 -- `sampled`: a size where the frame is accepted, whose level is then at most 4.
-use borrow.Author.Rules.{rules}
 use Rattle.grid.proofs.Accepted.{accepted}
 use Rattle.grid.proofs.Answers.{sampled_yes, sampled_no}
 use Rattle.grid.proofs.sampled.Goals as goal

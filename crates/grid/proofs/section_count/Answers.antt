@@ -1,5 +1,4 @@
 -- `section_count`: a number of the grid, through the check.
-use borrow.Author.Rules.{rules}
 use Rattle.grid.specs.Groups.{told}
 use Rattle.grid.proofs.Answers.{asked}
 use Rattle.grid.proofs.section_count.Goals as goal

@@ -1,7 +1,6 @@
 -- `sections_of`: one section, or several; the product fits.
 use native.Mathlib.Omega.{arith}
 use native.Mathlib.Nat.{mul-le-mul_left}
-use borrow.Author.Rules.{rules}
 use Rattle.grid.proofs.Steps.{sections_one, sections_many}
 use Rattle.grid.proofs.sections_of.Goals as goal
 

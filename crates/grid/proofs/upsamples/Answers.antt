@@ -1,5 +1,4 @@
 -- `upsamples`: nine numbers, looked up, and none above.
-use borrow.Author.Rules.{rules}
 use Rattle.grid.proofs.Steps.{by_bit, none_above}
 use Rattle.grid.proofs.upsamples.Goals as goal
 

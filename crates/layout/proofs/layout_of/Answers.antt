@@ -1,6 +1,5 @@
 -- `layout_of`: what was measured, or nothing beside a refusal.
 use native.Mathlib.Omega.{arith}
-use borrow.Author.Rules.{rules}
 use Rattle.layout.proofs.Laid.{layout_no, layout_yes}
 use Rattle.grid.proofs.Accepted.{sound}
 use Rattle.layout.proofs.layout_of.Goals as goal

@@ -1,6 +1,4 @@
 -- `not_in`: refusal 14.
-use native.Mathlib.Omega.{arith}
-use borrow.Author.Rules.{rules}
 use Rattle.layout.proofs.not_in.Goals as goal
 
 pub returns : goal.returns

@@ -1,6 +1,4 @@
 -- `section_in`: one law for each way out.
-use native.Mathlib.Omega.{arith}
-use borrow.Author.Rules.{rules}
 use Rattle.layout.proofs.Laid.{outside, within, no_group, no_number, found}
 use Rattle.std.proofs.lemmas.Bool.{not_from_false, not_from_true}
 use Rattle.layout.proofs.section_in.Goals as goal

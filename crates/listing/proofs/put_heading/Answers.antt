@@ -1,5 +1,4 @@
 -- `put_heading`: the heading, byte by byte.
-use borrow.Author.Rules.{rules}
 use Rattle.listing.specs.Text.{heading}
 use Rattle.listing.proofs.put_heading.Goals as goal
 

@@ -1,5 +1,4 @@
 -- `put_line`: a word, and columns behind it.
-use borrow.Author.Rules.{rules}
 use Rattle.listing.proofs.Columns.{line_put}
 use Rattle.listing.proofs.put_line.Goals as goal
 

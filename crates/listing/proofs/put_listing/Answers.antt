@@ -1,5 +1,4 @@
 -- `put_listing`: the heading, the lines, the total.
-use borrow.Author.Rules.{rules}
 use Rattle.listing.specs.Text.{total_text}
 use Rattle.listing.proofs.Texts.{heading_small, listing_put}
 use Rattle.listing.proofs.put_listing.Goals as goal

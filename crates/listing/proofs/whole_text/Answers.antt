@@ -1,5 +1,4 @@
 -- `whole_text`: nothing is refused.
-use borrow.Author.Rules.{rules}
 use Rattle.listing.proofs.Texts.{text_whole}
 use Rattle.listing.proofs.whole_text.Goals as goal
 

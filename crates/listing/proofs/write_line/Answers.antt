@@ -1,5 +1,4 @@
 -- `write_line`: measured first.
-use borrow.Author.Rules.{rules}
 use mathlib.Core.List.{map}
 use Rattle.decimal.specs.Decimal.{decimal}
 use Rattle.listing.specs.Text.{line}

@@ -1,5 +1,4 @@
 -- `write_listing`: one law for each way out.
-use borrow.Author.Rules.{rules}
 use Rattle.grid.proofs.Accepted.{sound}
 use Rattle.listing.proofs.Texts.{write_own, write_short, write_bad, write_all}
 use Rattle.std.proofs.lemmas.Bool.{not_from_false, not_from_true}

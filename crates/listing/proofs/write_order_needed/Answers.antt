@@ -1,5 +1,4 @@
 -- `write_order_needed`: the line by its definition.
-use borrow.Author.Rules.{rules}
 use Rattle.listing.specs.Text.{order_text}
 use Rattle.listing.proofs.write_order_needed.Goals as goal
 

@@ -1,5 +1,4 @@
 -- `write_refused`: the line by its definition.
-use borrow.Author.Rules.{rules}
 use Rattle.listing.specs.Text.{refused_text}
 use Rattle.listing.proofs.write_refused.Goals as goal
 

@@ -1,5 +1,4 @@
 -- `list_bytes`: no more than there are.
-use borrow.Author.Rules.{rules}
 use Rattle.listing_job.proofs.Jobs.{bytes_text, least_long}
 use Rattle.listing_job.proofs.list_bytes.Goals as goal
 

@@ -1,8 +1,6 @@
 -- `list_frame`: a bad line, or the frame behind it.
 use native.Mathlib.Omega.{arith}
-use borrow.Author.Rules.{rules}
 use Rattle.listing_job.proofs.Jobs.{job_bad, job_good}
-use Rattle.std.proofs.lemmas.Bool.{not_from_false, not_from_true}
 use Rattle.listing_job.proofs.list_frame.Goals as goal
 
 pub returns-then-not-line : goal.returns-then-not-line

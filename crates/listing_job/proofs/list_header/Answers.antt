@@ -1,5 +1,4 @@
 -- `list_header`: the header's refusal, or its sections.
-use borrow.Author.Rules.{rules}
 use Rattle.listing_job.proofs.Jobs.{header_refused, header_read}
 use Rattle.listing_job.proofs.list_header.Goals as goal
 

@@ -1,5 +1,4 @@
 -- `list_sections`: one law for each answer of the section entry.
-use borrow.Author.Rules.{rules}
 use Rattle.listing_job.proofs.Jobs.{sections_table, sections_needed, sections_refused}
 use Rattle.listing_job.proofs.list_sections.Goals as goal
 

@@ -1,5 +1,4 @@
 -- `list_table`: the order's first words.
-use borrow.Author.Rules.{rules}
 use Prim.Native.Nat.{min}
 use lib.ListN.{length}
 use Rattle.listing_job.proofs.Jobs.{table_text, least_long}

@@ -1,7 +1,6 @@
 -- `check_order`: each way out is one way of the definition.
 use mathlib.Core.Path.{◌∙◌, sym}
 use Rattle.order.proofs.Checked.{checked_many, checked_good, checked_bad}
-use borrow.Author.Rules.{rules}
 use Rattle.order.proofs.check_order.Goals as goal
 
 pub returns-then-count-gt65536 : goal.returns-then-count-gt65536

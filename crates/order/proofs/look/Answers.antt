@@ -1,7 +1,6 @@
 -- `look`: the table is judged, then the index.
 use native.Mathlib.Omega.{arith}
 use Rattle.order.proofs.Numbers.{look_bad, look_past, look_inside, look_found}
-use borrow.Author.Rules.{rules}
 use Rattle.order.proofs.look.Goals as goal
 
 pub returns-then-refusal-ne0 : goal.returns-then-refusal-ne0

@@ -1,10 +1,8 @@
 -- `mark_all`: the marks say which numbers have occurred among the entries passed.
-use borrow.Author.Rules.{rules}
 use native.Mathlib.Omega.{arith}
-use Prim.Native.Nat.{◌-◌}
-use mathlib.Core.Path.{◌≡◌, refl, ◌∙◌}
-use lib.ListN.{length, length-set}
-use Rattle.order.proofs.Marks.{Marked, marked_none, marked_more, marked_all, too_large, twice}
+use mathlib.Core.Path.{refl, ◌∙◌}
+use lib.ListN.{length-set}
+use Rattle.order.proofs.Marks.{marked_none, marked_more, marked_all, too_large, twice}
 use Rattle.order.proofs.mark_all.Goals as goal
 
 pub loop-i-init : goal.loop-i-init

@@ -1,10 +1,8 @@
 -- `mark_all`: the marks say which numbers have occurred among the entries passed.
-use borrow.Author.Rules.{rules}
-use native.Mathlib.Omega.{arith}
 use Prim.Native.Nat.{◌-◌}
-use mathlib.Core.Path.{◌≡◌, refl, ◌∙◌}
-use lib.ListN.{length, length-set}
-use Rattle.order.proofs.Marks.{Marked, marked_none, marked_more, marked_all, too_large, twice}
+use mathlib.Core.Path.{◌≡◌}
+use lib.ListN.{length}
+use Rattle.order.proofs.Marks.{Marked}
 use Rattle.order.proofs.mark_all.Given as goal
 
 abbrev pub invariant-loop-i : goal.invariant-loop-i

@@ -1,6 +1,5 @@
 -- `section_of`: the word that was looked up, under its own kind.
 use Rattle.order.proofs.Numbers.{section_found}
-use borrow.Author.Rules.{rules}
 use Rattle.order.proofs.section_of.Goals as goal
 
 pub returns : goal.returns

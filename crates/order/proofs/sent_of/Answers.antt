@@ -1,6 +1,5 @@
 -- `sent_of`: the word that was looked up, under its own kind.
 use Rattle.order.proofs.Numbers.{sent_found}
-use borrow.Author.Rules.{rules}
 use Rattle.order.proofs.sent_of.Goals as goal
 
 pub returns : goal.returns

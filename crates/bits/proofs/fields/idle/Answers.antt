@@ -1,5 +1,4 @@
 -- `idle`: not asked for, or refused before.
-use Rattle.std.proofs.Common.{rules}
 use Rattle.bits.proofs.fields.idle.Goals as goal
 
 pub returns-then-on : goal.returns-then-on

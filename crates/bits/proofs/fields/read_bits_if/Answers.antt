@@ -1,5 +1,5 @@
 -- `read_bits_if`: passed by, cut, or read.
-use Rattle.std.proofs.Common.{sym, refl, ◌∙◌, rules}
+use Rattle.std.proofs.Common.{sym, refl, ◌∙◌}
 use Rattle.bits.specs.Codec.{u}
 use Rattle.bits.specs.Steps.{gives}
 use Rattle.bits.proofs.Steps.{field_passed}

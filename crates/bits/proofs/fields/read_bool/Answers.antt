@@ -1,5 +1,5 @@
 -- A Bool is u(1).
-use Rattle.std.proofs.Common.{◌∙◌, rules}
+use Rattle.std.proofs.Common.{◌∙◌}
 use Rattle.bits.proofs.Codecs.{bool_is}
 use Rattle.bits.proofs.fields.read_bool.Goals as goal
 

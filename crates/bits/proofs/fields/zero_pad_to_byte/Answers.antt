@@ -1,5 +1,5 @@
 -- `zero_pad_to_byte`: passed by, cut, clean, or not.
-use Rattle.std.proofs.Common.{true, sym, refl, ap, ◌∙◌, rules, eq-eqb, ne_eqb}
+use Rattle.std.proofs.Common.{true, sym, refl, ap, ◌∙◌, eq-eqb, ne_eqb}
 use Rattle.bits.specs.declared.Field.{Field}
 use Rattle.bits.specs.Codec.{padding}
 use Rattle.bits.specs.Steps.{gives, refuses}

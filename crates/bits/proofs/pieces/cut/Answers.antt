@@ -1,6 +1,5 @@
 -- The refusal, by its definition.
 use Rattle.bits.specs.Steps.{cut}
-use Rattle.std.proofs.Common.{rules}
 use Rattle.bits.proofs.pieces.cut.Goals as goal
 
 pub returns : goal.returns

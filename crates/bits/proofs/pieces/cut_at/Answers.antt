@@ -1,5 +1,5 @@
 -- The same, beside no value.
-use Rattle.std.proofs.Common.{ap, zero-add, rules}
+use Rattle.std.proofs.Common.{ap, zero-add}
 use Rattle.bits.specs.declared.Cursor.{Cursor}
 use Rattle.bits.proofs.pieces.cut_at.Goals as goal
 

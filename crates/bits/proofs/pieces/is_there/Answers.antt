@@ -1,5 +1,5 @@
 -- `is_there`: the definition's two tests, the second told by the eight bytes where they are there.
-use Rattle.std.proofs.Common.{◌+◌, ◌∙◌, arith, rules, le-leb}
+use Rattle.std.proofs.Common.{◌+◌, ◌∙◌, arith, le-leb}
 use borrow.Author.Tests.{lt-leb}
 use Rattle.bits.specs.Bits.{bit_count}
 use Rattle.bits.proofs.Windows.{whole_reaches}

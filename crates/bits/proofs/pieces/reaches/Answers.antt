@@ -1,5 +1,5 @@
 -- `reaches`: the test in an order in which nothing can wrap.
-use Rattle.std.proofs.Common.{◌+◌, leb, sym, ap, ◌∙◌, arith, rules}
+use Rattle.std.proofs.Common.{◌+◌, leb, sym, ap, ◌∙◌, arith}
 use borrow.Author.Tests.{lt-leb}
 use Rattle.bits.specs.Bits.{bit_count}
 use Rattle.bits.proofs.Bits.{within_by}

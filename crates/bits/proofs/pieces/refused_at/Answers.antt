@@ -1,5 +1,5 @@
 -- `refused_at`: no value beside what `stop` answers.
-use Rattle.std.proofs.Common.{ap, rules}
+use Rattle.std.proofs.Common.{ap}
 use Rattle.bits.specs.declared.Cursor.{Cursor}
 use Rattle.bits.specs.declared.Field.{Field}
 use Rattle.bits.proofs.pieces.refused_at.Goals as goal

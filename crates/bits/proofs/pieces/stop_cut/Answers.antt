@@ -1,5 +1,5 @@
 -- A cursor with that refusal.
-use Rattle.std.proofs.Common.{ap, rules}
+use Rattle.std.proofs.Common.{ap}
 use Rattle.bits.specs.declared.Refusal.{Refusal}
 use Rattle.bits.proofs.pieces.stop_cut.Goals as goal
 

@@ -1,5 +1,5 @@
 -- `take`: the bits that are there, or none.
-use Rattle.std.proofs.Common.{sym, ap, ◌∙◌, arith, rules}
+use Rattle.std.proofs.Common.{sym, ap, ◌∙◌, arith}
 use Rattle.bits.specs.declared.window.Ahead.{Ahead}
 use Rattle.bits.proofs.Bits.{there_parts}
 use Rattle.bits.proofs.Windows.{peeked}

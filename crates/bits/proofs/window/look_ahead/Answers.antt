@@ -1,5 +1,5 @@
 -- `look_ahead`: the word that holds the bits, shifted down to them.
-use Rattle.std.proofs.Common.{length, arith, rules}
+use Rattle.std.proofs.Common.{length, arith}
 use lib.Bits.{and_mask, and_le_r}
 use Rattle.bits.proofs.Windows.{ahead_by, from_word, whole_here, not_whole}
 use Rattle.bits.proofs.window.look_ahead.Goals as goal

@@ -1,5 +1,5 @@
 -- `low_bits`: masked with 2 ^ n - 1.
-use Rattle.std.proofs.Common.{ℕ, ◌%◌, ◌^◌, ap, ◌∙◌, lt_of_lt_of_le, mod-lt, arith, pow_pos, pow_mono, rules}
+use Rattle.std.proofs.Common.{ℕ, ◌%◌, ◌^◌, ap, ◌∙◌, lt_of_lt_of_le, mod-lt, arith, pow_pos, pow_mono}
 use Rattle.bits.proofs.Windows.{one_shifted, masked}
 use Rattle.bits.proofs.window.low_bits.Goals as goal
 

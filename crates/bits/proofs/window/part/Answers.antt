@@ -1,5 +1,4 @@
 -- `part`: shifted down and masked.
-use Rattle.std.proofs.Common.{rules}
 use lib.Bits.{and_mask}
 use Rattle.bits.proofs.window.part.Goals as goal
 

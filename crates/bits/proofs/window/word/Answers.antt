@@ -1,5 +1,5 @@
 -- `word`: one byte after another.
-use Rattle.std.proofs.Common.{arith, rules}
+use Rattle.std.proofs.Common.{arith}
 use Rattle.bits.proofs.Windows.{byte_first, byte_more}
 use Rattle.bits.proofs.window.word.Goals as goal
 

@@ -1,5 +1,5 @@
 -- `word_at_end`: after each turn the value is the bytes so far; behind the last there are zeros.
-use Rattle.std.proofs.Common.{◌≡◌, ℕ, ◌+◌, ◌-◌, ◌*◌, ◌%◌, ◌^◌, ◌≤◌, get_or, refl, ap, ◌∙◌, arith, rules}
+use Rattle.std.proofs.Common.{◌≡◌, ℕ, ◌+◌, ◌-◌, ◌*◌, ◌%◌, ◌^◌, get_or, refl, ap, ◌∙◌, arith, rules}
 use lib.Bits.{bit_or}
 use Rattle.bits.specs.Bits.{bits_at}
 use Rattle.bits.proofs.Windows.{byte_more, all_bytes}

@@ -1,8 +1,6 @@
 -- `word_at_end`: after each turn the value is the bytes so far; behind the last there are zeros.
-use Rattle.std.proofs.Common.{◌≡◌, ℕ, ◌+◌, ◌-◌, ◌*◌, ◌%◌, ◌^◌, ◌≤◌, get_or, refl, ap, ◌∙◌, arith, rules}
-use lib.Bits.{bit_or}
+use Rattle.std.proofs.Common.{◌≡◌, ◌+◌, ◌-◌, ◌*◌, ◌≤◌}
 use Rattle.bits.specs.Bits.{bits_at}
-use Rattle.bits.proofs.Windows.{byte_more, all_bytes}
 use Rattle.bits.proofs.window.word_at_end.Given as goal
 
 abbrev pub invariant-loop-k : goal.invariant-loop-k

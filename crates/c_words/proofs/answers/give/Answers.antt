@@ -1,5 +1,4 @@
 -- `give`: one law for each way out.
-use borrow.Author.Rules.{rules}
 use Rattle.c_words.specs.Answers.{answer}
 use Rattle.c_words.proofs.Answering.{given_refused, given_words}
 use Rattle.c_words.proofs.answers.give.Goals as goal

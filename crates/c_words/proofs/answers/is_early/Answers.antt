@@ -1,5 +1,4 @@
 -- `is_early`: its two ranges.
-use borrow.Author.Rules.{rules}
 use Rattle.c_words.proofs.Answering.{early_by}
 use Rattle.c_words.proofs.answers.is_early.Goals as goal
 

@@ -1,5 +1,4 @@
 -- `with_room`: one law for each way out.
-use borrow.Author.Rules.{rules}
 use Rattle.c_words.proofs.Answering.{enough_room, no_room_lem, as_it_was}
 use Rattle.std.proofs.lemmas.Bool.{not_from_false, not_from_true}
 use Rattle.c_words.proofs.answers.with_room.Goals as goal

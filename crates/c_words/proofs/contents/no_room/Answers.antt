@@ -1,5 +1,4 @@
 -- `no_room`: one law for each way out.
-use borrow.Author.Rules.{rules}
 use Rattle.c_words.proofs.Naming.{too_long, own_first, then_three}
 use Rattle.c_words.proofs.contents.no_room.Goals as goal
 

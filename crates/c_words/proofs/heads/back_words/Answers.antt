@@ -1,5 +1,4 @@
 -- `back_words`: words 33 to 50.
-use borrow.Author.Rules.{rules}
 use Rattle.c_words.proofs.Recording.{back_is}
 use Rattle.c_words.proofs.heads.back_words.Goals as goal
 

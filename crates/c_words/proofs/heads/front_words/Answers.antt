@@ -1,5 +1,4 @@
 -- `front_words`: words 2 to 11.
-use borrow.Author.Rules.{rules}
 use Rattle.c_words.proofs.Recording.{front_is}
 use Rattle.c_words.proofs.heads.front_words.Goals as goal
 

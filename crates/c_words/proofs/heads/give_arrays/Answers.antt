@@ -1,5 +1,4 @@
 -- `give_arrays`: each array from its place on.
-use borrow.Author.Rules.{rules}
 use Rattle.c_words.specs.Heading.{arrays_after}
 use Rattle.c_words.proofs.Recording.{four_put}
 use Rattle.c_words.proofs.heads.give_arrays.Goals as goal

@@ -1,5 +1,4 @@
 -- `give_floats`: each part from its place on.
-use borrow.Author.Rules.{rules}
 use Rattle.c_words.specs.Heading.{last_floats, floats_after}
 use Rattle.c_words.proofs.Recording.{four_put}
 use Rattle.c_words.proofs.heads.give_floats.Goals as goal

@@ -1,5 +1,4 @@
 -- `give_front`: each part from its place on.
-use borrow.Author.Rules.{rules}
 use Rattle.c_words.proofs.Recording.{front_put}
 use Rattle.c_words.proofs.heads.give_front.Goals as goal
 

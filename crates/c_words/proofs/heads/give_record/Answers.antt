@@ -1,5 +1,4 @@
 -- `give_record`: refused, or all three slices.
-use borrow.Author.Rules.{rules}
 use Rattle.c_words.proofs.Recording.{handed_none, handed_all}
 use Rattle.c_words.proofs.heads.give_record.Goals as goal
 

@@ -1,5 +1,4 @@
 -- `give_signed`: x0, then y0.
-use borrow.Author.Rules.{rules}
 use mir.Syntax.{w32}
 use mir.ValLaws.{to_z-of_z}
 use Rattle.c_words.proofs.Recording.{signed_are}

@@ -1,5 +1,4 @@
 -- `give_words`: the three parts.
-use borrow.Author.Rules.{rules}
 use Rattle.c_words.proofs.Recording.{words_put}
 use Rattle.c_words.proofs.heads.give_words.Goals as goal
 

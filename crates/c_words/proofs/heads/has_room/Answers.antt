@@ -1,5 +1,4 @@
 -- `has_room`: three lengths.
-use borrow.Author.Rules.{rules}
 use Rattle.c_words.proofs.Recording.{room_is}
 use Rattle.c_words.proofs.heads.has_room.Goals as goal
 

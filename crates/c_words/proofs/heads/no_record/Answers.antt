@@ -1,5 +1,4 @@
 -- `no_record`: what is refused of a name buffer of no bytes.
-use borrow.Author.Rules.{rules}
 use native.Mathlib.Omega.{arith}
 use mathlib.Core.Path.{◌∙◌}
 use lib.ListN.{length}

@@ -1,5 +1,4 @@
 -- `section_by`: too few words, or the layout that they name.
-use borrow.Author.Rules.{rules}
 use Rattle.c_words.proofs.Laying.{few_words, by_words}
 use Rattle.c_words.proofs.layouts.section_by.Goals as goal
 

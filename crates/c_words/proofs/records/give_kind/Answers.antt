@@ -1,5 +1,4 @@
 -- `give_kind`: the numbers of the kind.
-use borrow.Author.Rules.{rules}
 use Rattle.sections.specs.Kinds.{numbers_of}
 use Rattle.c_words.specs.Answers.{answer}
 use Rattle.c_words.specs.Records.{kind_words}

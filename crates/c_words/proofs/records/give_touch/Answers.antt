@@ -1,5 +1,4 @@
 -- `give_touch`: yes is 1.
-use borrow.Author.Rules.{rules}
 use mathlib.Core.List.{[], ◌∷◌}
 use Rattle.c_words.specs.Answers.{answer}
 use Rattle.c_words.specs.Records.{bit}

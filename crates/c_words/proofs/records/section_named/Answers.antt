@@ -1,5 +1,4 @@
 -- `section_named`: one law for each way out.
-use borrow.Author.Rules.{rules}
 use Rattle.c_words.proofs.Naming.{section_known, section_own, section_unknown}
 use Rattle.c_words.proofs.records.section_named.Goals as goal
 

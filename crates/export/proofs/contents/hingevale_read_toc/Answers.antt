@@ -1,5 +1,4 @@
 -- `hingevale_read_toc`: too few words, or the first entry.
-use borrow.Author.Rules.{rules}
 use Rattle.toc.specs.Reading.{Tables, tables, first_reading}
 use Rattle.toc.proofs.Accepted.{first_telling}
 use Rattle.export.proofs.Listing.{listed_short, listed}

@@ -1,5 +1,4 @@
 -- `hingevale_read_toc_with_order`: too few words, or the second entry.
-use borrow.Author.Rules.{rules}
 use Rattle.toc.specs.Reading.{Tables, tables, second_reading}
 use Rattle.toc.proofs.Accepted.{second_telling}
 use Rattle.export.proofs.Listing.{listed_short, listed}

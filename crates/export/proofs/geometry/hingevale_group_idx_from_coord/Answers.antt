@@ -1,5 +1,4 @@
 -- `hingevale_group_idx_from_coord`: the crate below answers.
-use borrow.Author.Rules.{rules}
 use Rattle.grid.specs.Measured.{grid_of}
 use Rattle.grid.specs.Groups.{index_for}
 use Rattle.c_words.specs.Records.{number_answer}

@@ -1,5 +1,4 @@
 -- `hingevale_group_rect`: the crate below answers.
-use borrow.Author.Rules.{rules}
 use Rattle.grid.specs.Measured.{grid_of}
 use Rattle.grid.specs.Groups.{rect_for}
 use Rattle.c_words.specs.Records.{placed_answer}

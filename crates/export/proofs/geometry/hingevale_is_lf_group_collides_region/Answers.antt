@@ -1,5 +1,4 @@
 -- `hingevale_is_lf_group_collides_region`: the crate below answers.
-use borrow.Author.Rules.{rules}
 use Rattle.grid.specs.Measured.{grid_of}
 use Rattle.grid.specs.Groups.{touch_for}
 use Rattle.c_words.specs.Records.{touch_answer}

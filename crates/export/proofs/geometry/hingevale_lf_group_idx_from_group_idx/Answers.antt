@@ -1,5 +1,4 @@
 -- `hingevale_lf_group_idx_from_group_idx`: the crate below answers.
-use borrow.Author.Rules.{rules}
 use Rattle.grid.specs.Measured.{grid_of}
 use Rattle.grid.specs.Groups.{lf_index_of}
 use Rattle.c_words.specs.Records.{number_answer}

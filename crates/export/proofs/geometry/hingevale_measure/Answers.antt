@@ -1,5 +1,4 @@
 -- `hingevale_measure`: the grid of the six numbers.
-use borrow.Author.Rules.{rules}
 use Rattle.grid.specs.Measured.{grid_of}
 use Rattle.c_words.specs.Records.{grid_answer}
 use Rattle.export.proofs.Asking.{asked}

@@ -1,5 +1,4 @@
 -- `hingevale_sample_width`: the crate below answers.
-use borrow.Author.Rules.{rules}
 use Rattle.grid.specs.Groups.{sampled}
 use Rattle.c_words.specs.Records.{number_answer}
 use Rattle.export.proofs.Asking.{asked}

@@ -1,5 +1,4 @@
 -- `hingevale_read_frame_header`: no room for the record, or the entry of the crate below.
-use borrow.Author.Rules.{rules}
 use borrow.Author.Tests.{not-true, not-false}
 use Rattle.c_words.specs.Heading.{facts, buffers}
 use Rattle.export.proofs.Entering.{head_short, head_read}

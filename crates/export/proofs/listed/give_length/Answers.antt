@@ -1,5 +1,4 @@
 -- `give_length`: nothing beside a refusal, else the length.
-use borrow.Author.Rules.{rules}
 use Rattle.export.proofs.Tellings.{length_refused, length_given}
 use Rattle.export.proofs.listed.give_length.Goals as goal
 

@@ -1,5 +1,4 @@
 -- `hingevale_list`: no word for the length is 3; else the job's text and its length.
-use borrow.Author.Rules.{rules}
 use borrow.Author.Tests.{lt-ltb, le-ltb}
 use lib.ListN.{length}
 use Rattle.listing_job.specs.Job.{job_text}

@@ -1,5 +1,4 @@
 -- `hingevale_kind_of`: the crate below answers.
-use borrow.Author.Rules.{rules}
 use Rattle.sections.specs.Kinds.{kind_of}
 use Rattle.c_words.specs.Records.{kind_answer, section_number}
 use Rattle.export.proofs.Asking.{asked}

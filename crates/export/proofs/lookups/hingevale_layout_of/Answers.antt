@@ -1,5 +1,4 @@
 -- `hingevale_layout_of`: the crate below answers.
-use borrow.Author.Rules.{rules}
 use Rattle.layout.specs.Layouts.{layout_of}
 use Rattle.c_words.specs.Layouts.{layout_answer}
 use Rattle.export.proofs.Asking.{asked}

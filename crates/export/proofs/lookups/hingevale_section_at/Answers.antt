@@ -1,5 +1,4 @@
 -- `hingevale_section_at`: the crate below answers.
-use borrow.Author.Rules.{rules}
 use Rattle.sections.specs.Lookups.{place_of}
 use Rattle.c_words.specs.Records.{place_answer, section_number}
 use Rattle.export.proofs.Asking.{asked}

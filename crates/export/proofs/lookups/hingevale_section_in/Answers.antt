@@ -1,5 +1,4 @@
 -- `hingevale_section_in`: the crate below answers.
-use borrow.Author.Rules.{rules}
 use Rattle.c_words.specs.Records.{section_answer}
 use Rattle.c_words.specs.Layouts.{section_by}
 use Rattle.c_words.proofs.Wording.{worded}

@@ -1,5 +1,4 @@
 -- `hingevale_section_of_kind`: the kind by its numbers.
-use borrow.Author.Rules.{rules}
 use Rattle.c_words.specs.Records.{section_answer, section_of_numbers}
 use Rattle.export.proofs.Asking.{asked}
 use Rattle.export.proofs.lookups.hingevale_section_of_kind.Goals as goal

@@ -1,5 +1,4 @@
 -- `hingevale_section_of_sample`: the crate below answers.
-use borrow.Author.Rules.{rules}
 use Rattle.sections.specs.Lookups.{section_of_sample}
 use Rattle.c_words.specs.Records.{section_answer}
 use Rattle.export.proofs.Asking.{asked}

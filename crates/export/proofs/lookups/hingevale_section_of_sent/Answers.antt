@@ -1,5 +1,4 @@
 -- `hingevale_section_of_sent`: the crate below answers.
-use borrow.Author.Rules.{rules}
 use Rattle.sections.specs.Lookups.{section_of_sent}
 use Rattle.c_words.specs.Records.{section_answer, sent_number}
 use Rattle.export.proofs.Asking.{asked}

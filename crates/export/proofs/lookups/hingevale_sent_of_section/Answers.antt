@@ -1,5 +1,4 @@
 -- `hingevale_sent_of_section`: the crate below answers.
-use borrow.Author.Rules.{rules}
 use Rattle.sections.specs.Lookups.{sent_of_section}
 use Rattle.c_words.specs.Records.{sent_answer, section_number}
 use Rattle.export.proofs.Asking.{asked}

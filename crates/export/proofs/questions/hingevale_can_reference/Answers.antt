@@ -1,5 +1,4 @@
 -- `hingevale_can_reference`: the Rust's formula over the words.
-use borrow.Author.Rules.{rules}
 use Rattle.export.proofs.Shown.{referable_is}
 use Rattle.export.proofs.questions.hingevale_can_reference.Goals as goal
 

@@ -1,5 +1,4 @@
 -- `hingevale_is_keyframe`: the Rust's formula over the words.
-use borrow.Author.Rules.{rules}
 use Rattle.export.proofs.Shown.{keyframe_is}
 use Rattle.export.proofs.questions.hingevale_is_keyframe.Goals as goal
 

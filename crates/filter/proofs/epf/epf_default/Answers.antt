@@ -1,5 +1,4 @@
 -- `epf_default`: each group of values is its default, and the literal 1.0 is one.
-use borrow.Author.Rules.{rules}
 use mathlib.Core.Path.{◌≡◌, refl}
 use lib.Ieee.{binary32, of_bits, round}
 use Rattle.filter.specs.Values.{decimal}

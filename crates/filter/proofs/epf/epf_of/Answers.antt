@@ -1,5 +1,4 @@
 -- `epf_of`: no iterations, or some.
-use borrow.Author.Rules.{rules}
 use mathlib.Core.Path.{◌∙◌}
 use Rattle.filter.proofs.EpfLaws.{of_none, of_some}
 use Rattle.filter.proofs.epf.epf_of.Goals as goal

@@ -1,5 +1,4 @@
 -- `read_epf_if`: one call a row or a group, by the law of its table.
-use borrow.Author.Rules.{rules}
 use Rattle.filter.proofs.EpfLaws.{epf_is}
 use Rattle.filter.proofs.epf.read_epf_if.Goals as goal
 

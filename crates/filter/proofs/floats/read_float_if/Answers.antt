@@ -1,5 +1,4 @@
 -- `read_float_if`: the pattern, and its f32.
-use borrow.Author.Rules.{rules}
 use Rattle.filter.proofs.EpfLaws.{float_read_lem}
 use Rattle.filter.proofs.floats.read_float_if.Goals as goal
 

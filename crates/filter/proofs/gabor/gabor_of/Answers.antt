@@ -1,5 +1,4 @@
 -- `gabor_of`: disabled, default or custom.
-use borrow.Author.Rules.{rules}
 use mathlib.Core.Path.{◌∙◌}
 use Rattle.filter.proofs.GaborLaws.{of_disabled, of_default, of_custom}
 use Rattle.filter.proofs.gabor.gabor_of.Goals as goal

@@ -1,5 +1,4 @@
 -- `read_channel_if`: two rows and the test, by the law of its table.
-use borrow.Author.Rules.{rules}
 use Rattle.filter.proofs.GaborLaws.{channel_is}
 use Rattle.filter.proofs.gabor.read_channel_if.Goals as goal
 

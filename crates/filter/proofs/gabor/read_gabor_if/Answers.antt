@@ -1,5 +1,4 @@
 -- `read_gabor_if`: one call a row, by the law of its table.
-use borrow.Author.Rules.{rules}
 use Rattle.filter.proofs.GaborLaws.{gabor_is}
 use Rattle.filter.proofs.gabor.read_gabor_if.Goals as goal
 

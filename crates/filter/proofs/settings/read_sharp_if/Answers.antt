@@ -1,5 +1,4 @@
 -- `read_sharp_if`: one call a row, by the law of its table.
-use borrow.Author.Rules.{rules}
 use Rattle.filter.proofs.EpfLaws.{sharp_is}
 use Rattle.filter.proofs.settings.read_sharp_if.Goals as goal
 

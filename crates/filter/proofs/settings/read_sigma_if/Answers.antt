@@ -1,5 +1,4 @@
 -- `read_sigma_if`: one call a row, by the law of its table.
-use borrow.Author.Rules.{rules}
 use Rattle.filter.proofs.EpfLaws.{sigma_is}
 use Rattle.filter.proofs.settings.read_sigma_if.Goals as goal
 

@@ -1,5 +1,4 @@
 -- `sigma_of`: default, or custom with or without its quant_mul.
-use borrow.Author.Rules.{rules}
 use mathlib.Core.Path.{◌∙◌}
 use Rattle.filter.proofs.EpfLaws.{sigma_default_lem, sigma_custom}
 use Rattle.std.proofs.lemmas.Bool.{not_from_false, not_from_true}

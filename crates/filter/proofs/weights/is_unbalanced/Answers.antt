@@ -1,5 +1,4 @@
 -- `is_unbalanced`: four parts far below 2^64, and one test.
-use borrow.Author.Rules.{rules}
 use native.Mathlib.Omega.{arith}
 use Rattle.filter.proofs.WeightLaws.{above_lt, below_lt, unbalanced_is}
 use Rattle.filter.proofs.weights.is_unbalanced.Goals as goal

@@ -1,5 +1,4 @@
 -- `part_above`: nothing where the sign is set.
-use borrow.Author.Rules.{rules}
 use Rattle.filter.proofs.WeightLaws.{is_negative, is_positive}
 use Rattle.filter.proofs.weights.part_above.Goals as goal
 

@@ -1,5 +1,4 @@
 -- `part_below`: nothing where the sign is clear.
-use borrow.Author.Rules.{rules}
 use Rattle.filter.proofs.WeightLaws.{is_negative, is_positive}
 use Rattle.filter.proofs.weights.part_below.Goals as goal
 

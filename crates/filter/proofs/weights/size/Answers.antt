@@ -1,5 +1,4 @@
 -- `size`: a subnormal's fraction, or a shift that loses nothing.
-use borrow.Author.Rules.{rules}
 use native.Mathlib.Omega.{arith}
 use Prim.Native.Nat.{◌/◌}
 use lib.Bits.{and_le_r}

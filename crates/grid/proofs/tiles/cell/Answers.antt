@@ -1,6 +1,5 @@
 -- `cell`: a square that the frame has begins inside the picture, so nothing wraps.
 use native.Mathlib.Omega.{arith}
-use borrow.Author.Rules.{rules}
 use Rattle.grid.proofs.Answers.{has_columns, has_left, has_top}
 use Rattle.grid.proofs.Answers.{cell_made}
 use Rattle.grid.proofs.tiles.cell.Goals as goal

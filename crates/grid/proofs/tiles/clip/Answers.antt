@@ -1,5 +1,4 @@
 -- `clip`: each length within its end.
-use borrow.Author.Rules.{rules}
 use Rattle.grid.proofs.Answers.{clip_made}
 use Rattle.grid.proofs.tiles.clip.Goals as goal
 

@@ -3,7 +3,6 @@ use Prim.Native.Nat.{◌-◌}
 use native.Mathlib.Omega.{arith}
 use native.Mathlib.Nat.{div-le_self}
 use mathlib.Core.Path.{sym}
-use borrow.Author.Rules.{rules}
 use Rattle.grid.proofs.Rounding.{up_none, up_zero, up_by}
 use Rattle.grid.proofs.tiles.div_ceil.Goals as goal
 

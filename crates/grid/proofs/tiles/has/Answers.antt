@@ -1,5 +1,4 @@
 -- `has`: a number below the product of columns and rows.
-use borrow.Author.Rules.{rules}
 use Rattle.grid.proofs.Answers.{has_by}
 use Rattle.grid.proofs.tiles.has.Goals as goal
 

@@ -1,5 +1,4 @@
 -- `is_aabb_collides`: four comparisons.
-use borrow.Author.Rules.{rules}
 use Rattle.grid.proofs.Answers.{collides_by}
 use Rattle.grid.proofs.tiles.is_aabb_collides.Goals as goal
 

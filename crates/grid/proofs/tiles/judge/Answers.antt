@@ -1,5 +1,4 @@
 -- `judge`: the frame's refusal, none, or 14.
-use borrow.Author.Rules.{rules}
 use Rattle.grid.proofs.Answers.{judge_refused, judge_known, judge_unknown}
 use Rattle.grid.proofs.tiles.judge.Goals as goal
 

@@ -1,5 +1,4 @@
 -- `rect_for`: the rectangle where nothing is refused.
-use borrow.Author.Rules.{rules}
 use Rattle.grid.proofs.Answers.{there, rect_yes, rect_no}
 use Rattle.grid.proofs.tiles.rect_for.Goals as goal
 

@@ -1,5 +1,4 @@
 -- `touch_for`: the comparison where nothing is refused.
-use borrow.Author.Rules.{rules}
 use Rattle.grid.proofs.Answers.{there, touch_yes, touch_no}
 use Rattle.grid.proofs.tiles.touch_for.Goals as goal
 

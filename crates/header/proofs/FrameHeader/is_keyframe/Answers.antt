@@ -1,5 +1,4 @@
 -- Three tests.
-use borrow.Author.Rules.{rules}
 use mathlib.Core.Path.{◌∙◌}
 use Rattle.header.proofs.FrameHeader.is_keyframe.Goals as goal
 

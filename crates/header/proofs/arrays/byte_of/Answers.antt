@@ -3,7 +3,6 @@ use Prim.Native.Nat.{◌/◌, ◌^◌}
 use lib.Bits.{and_mask}
 use lib.Pow.{pow_pos}
 use native.Mathlib.Nat.{mod-lt}
-use borrow.Author.Rules.{rules}
 use Rattle.header.proofs.arrays.byte_of.Goals as goal
 
 pub overflow_cast-result : goal.overflow_cast-result

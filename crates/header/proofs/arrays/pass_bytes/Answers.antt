@@ -1,7 +1,6 @@
 -- `pass_bytes`: nothing to pass, or the bytes are there, or some aren't.
 use mathlib.Core.Path.{ap}
 use Rattle.bits.specs.declared.Field.{Field}
-use borrow.Author.Rules.{rules}
 use Rattle.header.proofs.Walks.{passed_idle, passed_past, passed_there, passed_cut}
 use Rattle.header.proofs.arrays.pass_bytes.Goals as goal
 

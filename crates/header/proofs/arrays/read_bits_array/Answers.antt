@@ -1,9 +1,7 @@
 -- `read_bits_array`: what is left of the walk is what the definition has left to read.
-use borrow.Author.Rules.{rules}
-use Prim.Native.Nat.{◌-◌}
 use mathlib.Core.Path.{refl}
 use Rattle.bits.specs.Codec.{u}
-use Rattle.header.proofs.Walks.{Left, left_none, left_more, left_all}
+use Rattle.header.proofs.Walks.{left_none, left_more, left_all}
 use Rattle.header.proofs.arrays.read_bits_array.Goals as goal
 
 pub loop-i-init : goal.loop-i-init

@@ -4,8 +4,7 @@ use mathlib.Core.Path.{◌∙◌}
 use native.Mathlib.Omega.{arith}
 use borrow.Author.Tests.{lt-ltb}
 use Rattle.bits.specs.Codec.{u}
-use Rattle.header.proofs.Walks.{Left, left_none, left_more, left_all, byte_lt, four_there, left_four}
-use borrow.Author.Rules.{rules}
+use Rattle.header.proofs.Walks.{left_none, left_more, left_all, byte_lt, four_there, left_four}
 use Rattle.header.proofs.arrays.read_bytes.Goals as goal
 
 pub loop-i-init : goal.loop-i-init

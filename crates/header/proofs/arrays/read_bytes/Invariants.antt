@@ -1,11 +1,7 @@
 -- `read_bytes`: what is left of the walk is what the definition has left to read; four bytes more, or one.
 use Prim.Native.Nat.{◌-◌}
-use mathlib.Core.Path.{◌∙◌}
-use native.Mathlib.Omega.{arith}
-use borrow.Author.Tests.{lt-ltb}
 use Rattle.bits.specs.Codec.{u}
-use Rattle.header.proofs.Walks.{Left, left_none, left_more, left_all, byte_lt, four_there, left_four}
-use borrow.Author.Rules.{rules}
+use Rattle.header.proofs.Walks.{Left}
 use Rattle.header.proofs.arrays.read_bytes.Given as goal
 
 abbrev pub invariant-loop-i : goal.invariant-loop-i

@@ -1,9 +1,7 @@
 -- `read_u32_array`: what is left of the walk is what the definition has left to read.
-use borrow.Author.Rules.{rules}
 use Prim.Native.Nat.{◌-◌}
-use mathlib.Core.Path.{refl}
 use Rattle.bits.specs.Codec.{u32}
-use Rattle.header.proofs.Walks.{Left, left_none, left_more, left_all}
+use Rattle.header.proofs.Walks.{Left}
 use Rattle.header.proofs.arrays.read_u32_array.Given as goal
 
 abbrev pub invariant-loop-i : goal.invariant-loop-i

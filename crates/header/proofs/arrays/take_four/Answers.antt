@@ -1,6 +1,5 @@
 -- Nothing, or what `take` answers.
 use Rattle.header.proofs.Walks.{four_idle, four_taken}
-use borrow.Author.Rules.{rules}
 use Rattle.header.proofs.arrays.take_four.Goals as goal
 
 pub returns-then-idle : goal.returns-then-idle

@@ -1,5 +1,4 @@
 -- `covers`: by the sign of the place.
-use borrow.Author.Rules.{rules}
 use Rattle.header.proofs.Canvas.{covers_before, covers_at, covers_behind}
 use Rattle.header.proofs.blending.covers.Goals as goal
 

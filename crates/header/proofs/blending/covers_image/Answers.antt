@@ -1,5 +1,4 @@
 -- `covers_image`: both sides, or no crop.
-use borrow.Author.Rules.{rules}
 use Rattle.header.proofs.Canvas.{covers_both}
 use Rattle.header.proofs.blending.covers_image.Goals as goal
 

@@ -1,5 +1,4 @@
 -- `has_source`: by the deciding mode.
-use borrow.Author.Rules.{rules}
 use Rattle.header.proofs.Canvas.{source_own, source_given}
 use Rattle.header.proofs.blending.has_source.Goals as goal
 

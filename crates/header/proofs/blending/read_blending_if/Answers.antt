@@ -2,7 +2,6 @@
 use mathlib.Core.Path.{refl, ap}
 use Rattle.header.specs.Private.{blending_read}
 use Rattle.header.proofs.Bundles.{blending_seen}
-use borrow.Author.Rules.{rules}
 use Rattle.std.proofs.lemmas.Bool.{not_from_false}
 use Rattle.header.proofs.blending.read_blending_if.Goals as goal
 

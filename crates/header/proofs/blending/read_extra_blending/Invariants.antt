@@ -1,8 +1,6 @@
 -- `read_extra_blending`: what is left of the walk is what the definition has left to read.
 use Prim.Native.Nat.{◌-◌}
-use native.Mathlib.Omega.{arith}
-use Rattle.header.proofs.Walks.{LeftBlending, blending_none, blending_more, blending_all}
-use borrow.Author.Rules.{rules}
+use Rattle.header.proofs.Walks.{LeftBlending}
 use Rattle.header.proofs.blending.read_extra_blending.Given as goal
 
 abbrev pub invariant-loop-i : goal.invariant-loop-i

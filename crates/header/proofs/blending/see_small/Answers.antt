@@ -1,5 +1,4 @@
 -- The selector, and what it names.
-use borrow.Author.Rules.{rules}
 use Rattle.header.proofs.Known.{small_is}
 use Rattle.header.proofs.blending.see_small.Goals as goal
 

@@ -1,5 +1,4 @@
 -- `default_back`: the defaults, both filters among them.
-use borrow.Author.Rules.{rules}
 use Rattle.header.specs.Private.{default_back}
 use Rattle.header.proofs.defaults.default_back.Goals as goal
 

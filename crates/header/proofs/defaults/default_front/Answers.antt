@@ -1,5 +1,4 @@
 -- `default_front`: the defaults, the scale of x by whether the image is XYB.
-use borrow.Author.Rules.{rules}
 use Rattle.header.specs.Private.{default_front}
 use Rattle.header.proofs.defaults.default_front.Goals as goal
 

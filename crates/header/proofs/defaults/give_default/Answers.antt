@@ -1,5 +1,4 @@
 -- `give_default`: nothing of the arrays is sent, and the record is that of the defaults.
-use borrow.Author.Rules.{rules}
 use Rattle.header.proofs.AllDefault.{default_given}
 use Rattle.header.proofs.Entering.{default_named}
 use Rattle.header.proofs.defaults.give_default.Goals as goal

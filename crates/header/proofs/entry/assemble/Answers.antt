@@ -1,5 +1,4 @@
 -- Field by field.
-use borrow.Author.Rules.{rules}
 use mathlib.Core.Path.{◌∙◌}
 use mir.Syntax.{w32}
 use mir.ValLaws.{to_z-of_z}

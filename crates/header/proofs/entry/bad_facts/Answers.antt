@@ -1,5 +1,4 @@
 -- Each bound.
-use borrow.Author.Rules.{rules}
 use Rattle.header.proofs.Entering.{facts_by}
 use Rattle.header.proofs.entry.bad_facts.Goals as goal
 

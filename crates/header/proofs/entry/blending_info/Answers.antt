@@ -1,5 +1,4 @@
 -- The mode by its number.
-use borrow.Author.Rules.{rules}
 use Rattle.header.proofs.Entering.{info_is}
 use Rattle.header.proofs.entry.blending_info.Goals as goal
 

@@ -1,5 +1,4 @@
 -- Grey, Modular, neither YCbCr nor XYB.
-use borrow.Author.Rules.{rules}
 use mathlib.Core.Path.{◌∙◌}
 use Rattle.header.proofs.entry.color_channels.Goals as goal
 

@@ -3,7 +3,6 @@ use native.Mathlib.Omega.{arith}
 use mathlib.Core.Path.{sym}
 use lib.Seq.{length-take-le}
 use Rattle.header.proofs.Entering.{given_kept, given_read}
-use borrow.Author.Rules.{rules}
 use Rattle.header.proofs.entry.give_channels.Goals as goal
 
 pub slice_bounds-fill_u32-end : goal.slice_bounds-fill_u32-end

@@ -1,6 +1,5 @@
 -- `give_read`: the record, the extra channels, and the name where it begins.
 use Rattle.header.proofs.Entering.{filled_by}
-use borrow.Author.Rules.{rules}
 use Rattle.header.proofs.entry.give_read.Goals as goal
 
 pub returns : goal.returns

@@ -1,5 +1,4 @@
 -- 2, 1, 3 in their order.
-use borrow.Author.Rules.{rules}
 use Rattle.header.proofs.Entering.{too_long, bad_facts_lem, short, good}
 use Rattle.header.proofs.entry.judge_header.Goals as goal
 

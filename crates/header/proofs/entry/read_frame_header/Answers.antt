@@ -1,7 +1,6 @@
 -- Refused at once, all default, refused while reading, or accepted and filled.
 use mathlib.Core.Path.{refl}
 use Rattle.header.proofs.Entering.{refused_first, default_all, refused_later, kept_by, accepted_all, header_named}
-use borrow.Author.Rules.{rules}
 use Rattle.header.proofs.entry.read_frame_header.Goals as goal
 
 pub returns-then-before-ne0 : goal.returns-then-before-ne0

@@ -1,5 +1,4 @@
 -- A refusal beside the zero record.
-use borrow.Author.Rules.{rules}
 use Rattle.header.proofs.Entering.{refused_is}
 use Rattle.header.proofs.entry.refused_header.Goals as goal
 

@@ -1,5 +1,4 @@
 -- All zeros, both filters disabled.
-use borrow.Author.Rules.{rules}
 use Rattle.header.specs.Record.{zero_header}
 use Rattle.header.proofs.entry.zero_header.Goals as goal
 

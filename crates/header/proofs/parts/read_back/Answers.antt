@@ -1,7 +1,6 @@
 -- `read_back`: one call a part, by the law of the whole.
 use mathlib.Core.Path.{◌∙◌}
 use Rattle.header.proofs.Whole.{back_law}
-use borrow.Author.Rules.{rules}
 use Rattle.header.proofs.parts.read_back.Goals as goal
 
 pub shape_of-channels : goal.shape_of-channels

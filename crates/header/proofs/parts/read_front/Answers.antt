@@ -1,7 +1,6 @@
 -- One bundle after the other.
 use mathlib.Core.Path.{◌∙◌}
 use Rattle.header.proofs.Whole.{front_law}
-use borrow.Author.Rules.{rules}
 use Rattle.header.proofs.parts.read_front.Goals as goal
 
 pub returns : goal.returns

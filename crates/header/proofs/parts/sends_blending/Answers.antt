@@ -1,5 +1,4 @@
 -- Two tests.
-use borrow.Author.Rules.{rules}
 use mathlib.Core.Path.{◌∙◌}
 use Rattle.header.proofs.parts.sends_blending.Goals as goal
 

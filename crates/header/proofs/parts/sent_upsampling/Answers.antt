@@ -1,5 +1,4 @@
 -- All or none.
-use borrow.Author.Rules.{rules}
 use mathlib.Core.Path.{◌∙◌}
 use Rattle.header.proofs.parts.sent_upsampling.Goals as goal
 

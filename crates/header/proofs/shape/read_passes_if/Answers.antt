@@ -1,5 +1,4 @@
 -- Two counts, and three arrays on tables of just their size.
-use borrow.Author.Rules.{rules}
 use mathlib.Core.Path.{refl, ◌∙◌, ap}
 use Rattle.header.specs.Private.{passes_read}
 use Rattle.header.proofs.Bundles.{passes_law}

@@ -1,5 +1,4 @@
 -- One call a row; a level is at most 3 before one is added.
-use borrow.Author.Rules.{rules}
 use native.Mathlib.Omega.{arith}
 use Rattle.header.specs.Private.{placement_read}
 use mathlib.Core.Path.{◌∙◌, ap}

@@ -1,5 +1,4 @@
 -- One call a row.
-use borrow.Author.Rules.{rules}
 use Rattle.header.specs.Private.{scales_read}
 use mathlib.Core.Path.{◌∙◌, ap}
 use Rattle.header.proofs.Bundles.{scales_law}

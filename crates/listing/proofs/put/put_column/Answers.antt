@@ -1,5 +1,4 @@
 -- `put_column`: a dash, or a tab and a number behind it.
-use borrow.Author.Rules.{rules}
 use borrow.Author.Tests.{not-true, not-false}
 use Rattle.listing.proofs.Columns.{column_dash, column_number}
 use Rattle.std.proofs.lemmas.Bool.{not_from_false, not_from_true}

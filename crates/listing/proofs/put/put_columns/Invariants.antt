@@ -1,10 +1,7 @@
 -- `put_columns`: the columns from i on are still to be put.
 use Prim.Native.Nat.{◌-◌}
-use mathlib.Core.Path.{◌∙◌}
 use lib.ListN.{length}
-use borrow.Author.Rules.{rules}
-use Rattle.listing.proofs.Putting.{put_length}
-use Rattle.listing.proofs.Columns.{Cells, cells_all, cells_less, cells_none}
+use Rattle.listing.proofs.Columns.{Cells}
 use Rattle.listing.proofs.put.put_columns.Given as goal
 
 abbrev pub invariant-loop-i : goal.invariant-loop-i

@@ -1,5 +1,4 @@
 -- `put_name`: a name for each number.
-use borrow.Author.Rules.{rules}
 use mathlib.Core.Path.{ap}
 use lib.Dec.{lit≤}
 use Rattle.listing.specs.Text.{kind_name}

@@ -1,7 +1,6 @@
 -- `put_number`: the digits stand at the end of their bytes.
 use native.Mathlib.Omega.{arith}
 use lib.ListN.{drop}
-use borrow.Author.Rules.{rules}
 use Rattle.listing.proofs.Columns.{digits_start, digits_size, digits_text, number_put, part_small}
 use Rattle.listing.proofs.put.put_number.Goals as goal
 

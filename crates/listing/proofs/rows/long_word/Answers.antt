@@ -1,5 +1,4 @@
 -- `long_word`: past the end, 0.
-use borrow.Author.Rules.{rules}
 use mathlib.Core.Path.{sym}
 use lib.ListN.{get_or-eq_default}
 use Rattle.listing.proofs.rows.long_word.Goals as goal

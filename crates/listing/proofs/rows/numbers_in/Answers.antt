@@ -1,5 +1,4 @@
 -- `numbers_in`: each number as it stands in the row.
-use borrow.Author.Rules.{rules}
 use mathlib.Core.Path.{refl}
 use Rattle.listing.specs.Private.{numbers_in}
 use Rattle.listing.proofs.rows.numbers_in.Goals as goal

@@ -1,5 +1,4 @@
 -- `put_row`: the number, the kind's name, and the columns.
-use borrow.Author.Rules.{rules}
 use Rattle.listing.proofs.Walks.{row_put}
 use Rattle.listing.proofs.rows.put_row.Goals as goal
 

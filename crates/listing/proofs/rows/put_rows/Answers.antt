@@ -1,9 +1,7 @@
 -- `put_rows`: the lines from section i on are still to be put.
-use Prim.Native.Nat.{◌-◌}
 use native.Mathlib.Omega.{arith}
-use borrow.Author.Rules.{rules}
 use Rattle.listing.specs.Listed.{row_at}
-use Rattle.listing.proofs.Walks.{Lists, lists_all, lists_less, lists_none}
+use Rattle.listing.proofs.Walks.{lists_all, lists_less, lists_none}
 use Rattle.listing.proofs.rows.put_rows.Goals as goal
 
 pub loop-i-init : goal.loop-i-init

@@ -1,5 +1,4 @@
 -- `rect_of`: by the kind's number.
-use borrow.Author.Rules.{rules}
 use Rattle.grid.specs.Measured.{grid_of}
 use Rattle.listing.proofs.Showing.{rect_lf, rect_group, rect_all, rect_none}
 use Rattle.listing.proofs.rows.rect_of.Goals as goal

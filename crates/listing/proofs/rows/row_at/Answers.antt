@@ -1,5 +1,4 @@
 -- `row_at`: one law over the answers of its calls.
-use borrow.Author.Rules.{rules}
 use Rattle.listing.proofs.Showing.{row_is}
 use Rattle.listing.proofs.rows.row_at.Goals as goal
 

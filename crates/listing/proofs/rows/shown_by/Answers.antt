@@ -1,5 +1,4 @@
 -- `shown_by`: the tests of its definition.
-use borrow.Author.Rules.{rules}
 use Rattle.listing.specs.Private.{shown_by}
 use Rattle.listing.proofs.rows.shown_by.Goals as goal
 

@@ -1,8 +1,6 @@
 -- `sum_sizes`: the sum of the sizes so far.
-use Prim.Native.Nat.{◌-◌}
 use native.Mathlib.Omega.{arith}
-use borrow.Author.Rules.{rules}
-use Rattle.listing.proofs.Showing.{Sums, sums_none, sums_more, sums_all}
+use Rattle.listing.proofs.Showing.{sums_none, sums_more, sums_all}
 use Rattle.listing.proofs.rows.sum_sizes.Goals as goal
 
 pub loop-i-init : goal.loop-i-init

@@ -1,8 +1,6 @@
 -- `sum_sizes`: the sum of the sizes so far.
 use Prim.Native.Nat.{◌-◌}
-use native.Mathlib.Omega.{arith}
-use borrow.Author.Rules.{rules}
-use Rattle.listing.proofs.Showing.{Sums, sums_none, sums_more, sums_all}
+use Rattle.listing.proofs.Showing.{Sums}
 use Rattle.listing.proofs.rows.sum_sizes.Given as goal
 
 abbrev pub invariant-loop-i : goal.invariant-loop-i

@@ -1,5 +1,4 @@
 -- `whole`: two numbers of the grid.
-use borrow.Author.Rules.{rules}
 use Rattle.grid.specs.Measured.{grid_of}
 use Rattle.listing.proofs.Showing.{whole_is}
 use Rattle.listing.proofs.rows.whole.Goals as goal

@@ -1,5 +1,4 @@
 -- `word`: past the end, 0.
-use borrow.Author.Rules.{rules}
 use mathlib.Core.Path.{sym}
 use lib.ListN.{get_or-eq_default}
 use Rattle.listing.proofs.rows.word.Goals as goal

@@ -1,8 +1,5 @@
 -- `read_line`: what is left of the walk is what is left of the line.
-use Prim.Native.Nat.{◌-◌}
-use lib.ListN.{length}
-use borrow.Author.Rules.{rules}
-use Rattle.listing_job.proofs.Lines.{Reads, reads_none, reads_more, reads_all}
+use Rattle.listing_job.proofs.Lines.{reads_none, reads_more, reads_all}
 use Rattle.listing_job.proofs.facts.read_line.Goals as goal
 
 pub loop-i-init : goal.loop-i-init

@@ -1,7 +1,6 @@
 -- `f16_to_f32`: the product is the f32 of the pattern, for a subnormal and for a normal number.
-use Rattle.std.proofs.Common.{◌/◌, arith, le→leb}
-use lib.Bits.{and_le_r, and_mask}
-use lib.Ieee.{in_float}
+use Rattle.std.proofs.Common.{◌/◌, arith}
+use lib.Bits.{and_le_r}
 use Rattle.numbers.proofs.Half.{no_nan_pattern, zero_is, normal_is, mantissa_fits}
 use Rattle.numbers.proofs.halves.f16_to_f32.Goals as goal
 

@@ -1,9 +1,8 @@
 -- `read_f16_if`: passed by, cut, exponent 31, or read.
-use Rattle.std.proofs.Common.{sym, refl, ◌∙◌, rules}
+use Rattle.std.proofs.Common.{sym, refl, ◌∙◌}
 use Rattle.bits.specs.Codec.{f16}
 use Rattle.bits.proofs.Steps.{field_passed}
 use Rattle.bits.proofs.Codecs.{given, first_taken, first_cut, half_bad, half_good}
-use Rattle.std.proofs.lemmas.Bool.{not_from_false, not_from_true}
 use Rattle.numbers.proofs.halves.read_f16_if.Goals as goal
 
 pub returns-then-idle : goal.returns-then-idle

@@ -1,5 +1,5 @@
 -- `read_extensions_if`: what is left of the mask is what the definition has left to read.
-use Rattle.std.proofs.Common.{◌≡◌, ℕ, ◌+◌, ◌^◌, ◌<◌, ◌≤◌, refl, ap, ◌∙◌, arith, rules}
+use Rattle.std.proofs.Common.{◌≡◌, ℕ, refl, ap, ◌∙◌, arith, rules}
 use Rattle.bits.specs.Table.{read}
 use Rattle.bits.specs.Extensions.{lengths, whole}
 use Rattle.bits.proofs.Tables.{lengths_none, lengths_step, extensions_read}

@@ -1,8 +1,7 @@
 -- `read_extensions_if`: what is left of the mask is what the definition has left to read.
-use Rattle.std.proofs.Common.{◌≡◌, ℕ, ◌+◌, ◌^◌, ◌<◌, ◌≤◌, refl, ap, ◌∙◌, arith, rules}
+use Rattle.std.proofs.Common.{◌≡◌, ℕ, ◌+◌, ◌^◌, ◌<◌, ◌≤◌}
 use Rattle.bits.specs.Table.{read}
 use Rattle.bits.specs.Extensions.{lengths, whole}
-use Rattle.bits.proofs.Tables.{lengths_none, lengths_step, extensions_read}
 use Rattle.numbers.proofs.skips.read_extensions_if.Given as goal
 
 abbrev pub invariant-loop-mask : goal.invariant-loop-mask

@@ -1,9 +1,8 @@
 -- `skip_bits_if`: passed by, past the end, or within it.
-use Rattle.std.proofs.Common.{◌≡◌, ℕ, ◌+◌, ◌*◌, ◌^◌, ◌<◌, ◌≤◌, sym, refl, ap, ◌∙◌, arith, rules}
+use Rattle.std.proofs.Common.{◌≡◌, sym, ap, ◌∙◌, arith}
 use Rattle.bits.specs.declared.Field.{Field}
 use Rattle.bits.specs.Codec.{skip}
 use Rattle.bits.specs.Extensions.{whole}
-use Rattle.bits.specs.Bits.{bit_count}
 use Rattle.bits.proofs.Steps.{field_idle}
 use Rattle.bits.proofs.Codecs.{skip_cut, skip_goes}
 use Rattle.numbers.proofs.skips.skip_bits_if.Goals as goal

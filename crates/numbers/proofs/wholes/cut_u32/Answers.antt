@@ -1,5 +1,5 @@
 -- `cut_u32`: one test on the selector.
-use Rattle.std.proofs.Common.{◌+◌, sym, ◌∙◌, arith, rules, leb-true}
+use Rattle.std.proofs.Common.{◌+◌, sym, ◌∙◌, arith, leb-true}
 use Rattle.bits.specs.Bits.{bit_count}
 use Rattle.numbers.proofs.wholes.cut_u32.Goals as goal
 

@@ -1,10 +1,9 @@
 -- `last`: cut at the bit, ended by it, cut at u(4), or read.
-use Rattle.std.proofs.Common.{◌+◌, ◌*◌, ◌^◌, sym, refl, ap, ◌∙◌, arith, rules}
+use Rattle.std.proofs.Common.{◌+◌, ◌*◌, ◌^◌, sym, refl, ap, ◌∙◌, arith}
 use Rattle.bits.specs.Steps.{gives}
 use Rattle.bits.specs.Codec.{wide_of}
 use Rattle.bits.proofs.Steps.{run_take, run_cut, piece_lt}
 use Rattle.numbers.proofs.Long.{wide_given, joined, more_cut, more_ends, more_last}
-use Rattle.std.proofs.lemmas.Bool.{not_from_false, not_from_true}
 use Rattle.numbers.proofs.wholes.last.Goals as goal
 
 pub returns-then-not-b : goal.returns-then-not-b

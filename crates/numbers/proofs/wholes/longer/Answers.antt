@@ -1,10 +1,9 @@
 -- `longer`: what is left to read at a shift is what the definition has left there.
-use Rattle.std.proofs.Common.{◌≡◌, ℕ, ◌+◌, ◌-◌, ◌*◌, ◌/◌, ◌%◌, ◌^◌, ◌<◌, ◌≤◌, sym, refl, ap, ◌∙◌, arith, pow_mono, rules}
-use Rattle.bits.specs.Steps.{takes, run}
+use Rattle.std.proofs.Common.{◌≡◌, ℕ, ◌-◌, ◌/◌, sym, refl, ap, ◌∙◌, arith}
+use Rattle.bits.specs.Steps.{run}
 use Rattle.bits.specs.Codec.{more, wide_of}
 use Rattle.bits.proofs.Steps.{run_take, run_cut, piece_lt}
 use Rattle.numbers.proofs.Long.{wide_given, more_cut, more_ends, more_cut_8, more_goes, more_lt}
-use Rattle.std.proofs.lemmas.Bool.{not_from_false, not_from_true}
 use Rattle.numbers.proofs.wholes.longer.Goals as goal
 
 pub returns-then-not-x : goal.returns-then-not-x

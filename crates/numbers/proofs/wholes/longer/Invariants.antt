@@ -1,9 +1,7 @@
 -- `longer`: what is left to read at a shift is what the definition has left there.
-use Rattle.std.proofs.Common.{◌≡◌, ℕ, ◌+◌, ◌-◌, ◌*◌, ◌/◌, ◌%◌, ◌^◌, ◌<◌, ◌≤◌, sym, refl, ap, ◌∙◌, arith, pow_mono, rules}
+use Rattle.std.proofs.Common.{◌≡◌, ◌-◌, ◌/◌, ◌%◌, ◌^◌, ◌<◌, ◌≤◌}
 use Rattle.bits.specs.Steps.{takes, run}
-use Rattle.bits.specs.Codec.{more, wide_of}
-use Rattle.bits.proofs.Steps.{run_take, run_cut, piece_lt}
-use Rattle.numbers.proofs.Long.{wide_given, more_cut, more_ends, more_cut_8, more_goes, more_lt}
+use Rattle.bits.specs.Codec.{more}
 use Rattle.numbers.proofs.wholes.longer.Given as goal
 
 abbrev pub invariant-loop-shift : goal.invariant-loop-shift

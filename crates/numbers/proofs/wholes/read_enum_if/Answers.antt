@@ -1,5 +1,5 @@
 -- `read_enum_if`: passed by, refused in the U32, a case that is not there, or the U32's own value.
-use Rattle.std.proofs.Common.{sym, ◌∙◌, rules}
+use Rattle.std.proofs.Common.{◌∙◌}
 use Rattle.bits.proofs.Steps.{field_passed}
 use Rattle.bits.proofs.Codecs.{case_refused, case_unknown, case_known}
 use Rattle.numbers.proofs.wholes.read_enum_if.Goals as goal

@@ -1,5 +1,5 @@
 -- `read_u32_if`: passed by, cut, or read from the 56 bits ahead.
-use Rattle.std.proofs.Common.{ℕ, ◌+◌, ◌%◌, ◌^◌, sym, refl, ap, ◌∙◌, arith, rules}
+use Rattle.std.proofs.Common.{ℕ, ◌+◌, ◌%◌, ◌^◌, sym, refl, ap, ◌∙◌, arith}
 use Rattle.bits.specs.declared.window.Ahead.{Ahead}
 use Rattle.bits.specs.Codec.{u32}
 use Rattle.bits.proofs.Steps.{field_passed, field_run}

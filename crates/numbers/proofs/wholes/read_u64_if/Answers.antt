@@ -1,10 +1,9 @@
 -- `read_u64_if`: passed by, cut, or one of the four forms.
-use Rattle.std.proofs.Common.{sym, refl, ap, ◌∙◌, rules, eq-eqb, ne_eqb}
+use Rattle.std.proofs.Common.{sym, refl, ap, ◌∙◌}
 use Rattle.bits.specs.Codec.{u64, long, wide_of}
 use Rattle.bits.proofs.Steps.{field_passed}
 use Rattle.bits.proofs.Codecs.{first_taken, first_cut}
 use Rattle.numbers.proofs.Long.{wide_given, long_0, long_1, long_2, long_3}
-use Rattle.std.proofs.lemmas.Bool.{not_from_false, not_from_true}
 use Rattle.numbers.proofs.wholes.read_u64_if.Goals as goal
 
 pub returns-then-idle : goal.returns-then-idle

@@ -1,10 +1,9 @@
 -- `short`: one piece, there or cut.
-use Rattle.std.proofs.Common.{◌+◌, sym, refl, ap, ◌∙◌, rules}
+use Rattle.std.proofs.Common.{◌+◌, sym, refl, ap, ◌∙◌}
 use Rattle.bits.specs.Steps.{gives}
 use Rattle.bits.specs.Codec.{wide_of}
 use Rattle.bits.proofs.Steps.{run_take, run_cut}
 use Rattle.numbers.proofs.Long.{wide_given}
-use Rattle.std.proofs.lemmas.Bool.{not_from_false, not_from_true}
 use Rattle.numbers.proofs.wholes.short.Goals as goal
 
 pub returns-then-not-x : goal.returns-then-not-x

@@ -1,5 +1,5 @@
 -- `u32_is_there`: the two tests of both pieces are one on the width and one on the end, which eight bytes ahead tell too.
-use Rattle.std.proofs.Common.{◌+◌, sym, ◌∙◌, arith, rules, le-leb}
+use Rattle.std.proofs.Common.{◌+◌, sym, ◌∙◌, arith, le-leb}
 use Rattle.bits.specs.Bits.{bit_count}
 use Rattle.bits.proofs.Codecs.{u32_narrow, u32_wide}
 use Rattle.bits.proofs.Windows.{whole_reaches}

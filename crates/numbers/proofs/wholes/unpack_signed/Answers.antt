@@ -1,5 +1,5 @@
 -- `unpack_signed`: half, or half negated and one less.
-use Rattle.std.proofs.Common.{sym, ◌∙◌, rules}
+use Rattle.std.proofs.Common.{sym, ◌∙◌}
 use Rattle.numbers.proofs.Signed.{signed_even, half_is, minus_fits, less_fits, odd_is}
 use Rattle.numbers.proofs.wholes.unpack_signed.Goals as goal
 

@@ -1,7 +1,6 @@
 -- `wide_cut`: the same beside a wider value.
-use Rattle.std.proofs.Common.{ap, rules}
+use Rattle.std.proofs.Common.{ap}
 use Rattle.bits.specs.declared.Field.{Field}
-use Rattle.bits.specs.declared.Wide.{Wide}
 use Rattle.numbers.proofs.wholes.wide_cut.Goals as goal
 
 pub returns : goal.returns

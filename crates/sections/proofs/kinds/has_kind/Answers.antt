@@ -1,5 +1,4 @@
 -- `has_kind`: by the kind's number.
-use borrow.Author.Rules.{rules}
 use Rattle.sections.proofs.OfKinds.{has_one, has_lf, has_pass_lem, has_global}
 use Rattle.sections.proofs.kinds.has_kind.Goals as goal
 

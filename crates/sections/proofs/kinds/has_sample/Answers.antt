@@ -1,5 +1,4 @@
 -- `has_sample`: three comparisons.
-use borrow.Author.Rules.{rules}
 use Rattle.sections.proofs.Asking.{sample_by}
 use Rattle.sections.proofs.kinds.has_sample.Goals as goal
 

@@ -1,5 +1,4 @@
 -- `kind_at`: by the section's number.
-use borrow.Author.Rules.{rules}
 use Rattle.sections.proofs.OfKinds.{at_one, at_first, at_lf, at_hf, at_pass}
 use Rattle.sections.proofs.kinds.kind_at.Goals as goal
 

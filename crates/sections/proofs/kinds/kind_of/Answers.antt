@@ -1,5 +1,4 @@
 -- `kind_of`: the kind of a section that the frame has.
-use borrow.Author.Rules.{rules}
 use Rattle.sections.proofs.OfKinds.{kind_no, kind_yes, allowed}
 use Rattle.sections.proofs.kinds.kind_of.Goals as goal
 

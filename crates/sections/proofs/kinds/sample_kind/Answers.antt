@@ -1,6 +1,5 @@
 -- `sample_kind`: All, or the group of the sample in its pass.
 use native.Mathlib.Omega.{arith}
-use borrow.Author.Rules.{rules}
 use Rattle.sections.proofs.Asking.{sample_all, sample_group_by}
 use Rattle.sections.proofs.kinds.sample_kind.Goals as goal
 

@@ -1,5 +1,4 @@
 -- `section_of_kind`: a section number below the count, or a refusal.
-use borrow.Author.Rules.{rules}
 use Rattle.sections.proofs.OfKinds.{of_kind_no, of_kind_yes, number_fits}
 use Rattle.sections.proofs.kinds.section_of_kind.Goals as goal
 

@@ -1,5 +1,4 @@
 -- `section_of_sample`: through the sample's group to a section that the frame has.
-use borrow.Author.Rules.{rules}
 use Rattle.sections.proofs.Asking.{sample_group_fits, sample_fits, of_sample_no, of_sample_yes}
 use Rattle.sections.proofs.kinds.section_of_sample.Goals as goal
 

@@ -1,5 +1,4 @@
 -- `judge_section`: the refusals in their order.
-use borrow.Author.Rules.{rules}
 use Rattle.sections.proofs.Asking.{place_frame, place_short, place_judged}
 use Rattle.std.proofs.lemmas.Bool.{not_from_false, not_from_true}
 use Rattle.sections.proofs.lookups.judge_section.Goals as goal

@@ -1,5 +1,4 @@
 -- `section_at`: the two words that stand there.
-use borrow.Author.Rules.{rules}
 use lib.ListN.{length}
 use Rattle.sections.proofs.Asking.{place_inside, place_no, place_yes}
 use Rattle.sections.proofs.lookups.section_at.Goals as goal

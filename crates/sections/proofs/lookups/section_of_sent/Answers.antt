@@ -1,5 +1,4 @@
 -- `section_of_sent`: the frame's refusal, or what the inverse says.
-use borrow.Author.Rules.{rules}
 use Rattle.sections.proofs.Asking.{back_no, back_yes}
 use Rattle.sections.proofs.lookups.section_of_sent.Goals as goal
 

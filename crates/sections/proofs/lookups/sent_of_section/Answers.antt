@@ -1,5 +1,4 @@
 -- `sent_of_section`: the frame's refusal, or what the order says.
-use borrow.Author.Rules.{rules}
 use Rattle.sections.proofs.Asking.{sent_no, sent_yes}
 use Rattle.sections.proofs.lookups.sent_of_section.Goals as goal
 

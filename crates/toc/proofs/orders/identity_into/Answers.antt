@@ -1,7 +1,5 @@
 -- `identity_into`: what is left of the walk is what is left to put.
-use Rattle.std.proofs.Common.{◌-◌, arith, rules}
-use Rattle.fill.proofs.Filling.{Values}
-use Rattle.order.specs.Tables.{identity}
+use Rattle.std.proofs.Common.{arith}
 use Rattle.order.proofs.Inverse.{identity_length}
 use Rattle.order.proofs.Fill.{counted_none, counted_more, counted_all}
 use Rattle.toc.proofs.orders.identity_into.Goals as goal

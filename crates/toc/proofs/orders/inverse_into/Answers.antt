@@ -1,6 +1,6 @@
 -- `inverse_into`: what the sections that are left make of the table is what all make of it.
-use Rattle.std.proofs.Common.{◌-◌, take, arith, rules}
-use Rattle.order.proofs.Placed.{Placing, placing_none, placing_more, placing_all}
+use Rattle.std.proofs.Common.{take, arith}
+use Rattle.order.proofs.Placed.{placing_none, placing_more, placing_all}
 use Rattle.toc.proofs.orders.inverse_into.Goals as goal
 
 pub loop-j-init : goal.loop-j-init

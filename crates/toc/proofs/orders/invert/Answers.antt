@@ -1,6 +1,5 @@
 -- `invert`: the refusals in their order, then the sections placed one by one.
 use Rattle.order.proofs.Inverting.{invert_many, invert_short, invert_bad, invert_done}
-use Rattle.std.proofs.Common.{rules}
 use Rattle.toc.proofs.orders.invert.Goals as goal
 
 pub returns-then-count-gt65536 : goal.returns-then-count-gt65536

@@ -1,5 +1,5 @@
 -- `order_into`: as many entries as there are.
-use Rattle.std.proofs.Common.{sym, arith, length-take-le, rules}
+use Rattle.std.proofs.Common.{sym, arith, length-take-le}
 use Rattle.order.proofs.Fill.{copied}
 use Rattle.toc.proofs.orders.order_into.Goals as goal
 

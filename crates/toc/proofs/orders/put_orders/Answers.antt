@@ -1,5 +1,4 @@
 -- `put_orders`: the lent order and its inverse, or the identity twice.
-use Rattle.std.proofs.Common.{rules}
 use Rattle.toc.proofs.Entering.{orders_lent, orders_identity}
 use Rattle.toc.proofs.orders.put_orders.Goals as goal
 

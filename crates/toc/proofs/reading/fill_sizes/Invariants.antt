@@ -1,9 +1,9 @@
 -- `fill_sizes`: after k turns the first k sizes stand at their sections, each with the sum of those before it as its offset; two at once are two
 -- turns.
-use Rattle.std.proofs.Common.{◌+◌, ◌-◌, ◌≤◌, take, arith, rules, leb-true}
-use Rattle.order.proofs.Placed.{Placing, placing_none, placing_all}
+use Rattle.std.proofs.Common.{◌-◌, ◌≤◌, take}
+use Rattle.order.proofs.Placed.{Placing}
 use Rattle.toc.specs.Private.{size_at, offset_at}
-use Rattle.toc.proofs.Walking.{Walking, walking_none, walking_size, walking_more, walking_fits, pair_between, pair_first, pair_second, pair_first_fits, pair_second_fits, pair_more, turn_more, turn_two}
+use Rattle.toc.proofs.Walking.{Walking}
 use Rattle.toc.proofs.reading.fill_sizes.Given as goal
 
 abbrev pub invariant-loop-k : goal.invariant-loop-k

@@ -1,5 +1,4 @@
 -- `has_room`: four comparisons.
-use Rattle.std.proofs.Common.{rules}
 use Rattle.toc.proofs.Judging.{room_by}
 use Rattle.toc.proofs.reading.has_room.Goals as goal
 

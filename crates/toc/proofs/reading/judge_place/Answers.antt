@@ -1,5 +1,4 @@
 -- `judge_place`: the refusals before reading, in their order.
-use Rattle.std.proofs.Common.{rules}
 use Rattle.toc.proofs.Judging.{judged_long, judged_frame, judged_room, judged_past, judged_good}
 use Rattle.std.proofs.lemmas.Bool.{not_from_false, not_from_true}
 use Rattle.toc.proofs.reading.judge_place.Goals as goal

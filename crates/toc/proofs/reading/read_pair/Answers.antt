@@ -1,5 +1,5 @@
 -- `read_pair`: not at once, or both out of one look ahead.
-use Rattle.std.proofs.Common.{sym, refl, ◌∙◌, rules}
+use Rattle.std.proofs.Common.{sym, refl, ◌∙◌}
 use mathlib.Core.Bool.{false≢true}
 use Rattle.toc.proofs.Sizing.{pair_two}
 use Rattle.std.proofs.lemmas.Bool.{not_from_true}

@@ -1,5 +1,5 @@
 -- `read_size`: a U32 of the four choices.
-use Rattle.std.proofs.Common.{◌∙◌, rules}
+use Rattle.std.proofs.Common.{◌∙◌}
 use Rattle.toc.proofs.reading.read_size.Goals as goal
 
 pub returns : goal.returns

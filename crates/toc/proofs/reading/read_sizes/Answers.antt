@@ -1,5 +1,5 @@
 -- `read_sizes`: the first fault, or the four tables.
-use Rattle.std.proofs.Common.{arith, rules}
+use Rattle.std.proofs.Common.{arith}
 use Rattle.toc.specs.Reading.{tables}
 use Rattle.toc.specs.Private.{order_by}
 use Rattle.toc.proofs.Entering.{done_fault, done_table}

@@ -1,5 +1,4 @@
 -- `read_toc`: one law for each way out.
-use Rattle.std.proofs.Common.{rules}
 use Rattle.order.proofs.Inverse.{identity_order}
 use Rattle.toc.specs.Reading.{tables}
 use Rattle.toc.proofs.Entering.{roomed, first_refused, first_needed, first_is}

@@ -1,5 +1,4 @@
 -- `read_toc_with_order`: one law for each way out.
-use Rattle.std.proofs.Common.{rules}
 use Rattle.toc.specs.Reading.{tables}
 use Rattle.toc.proofs.Entering.{roomed, second_refused, second_bad, second_is, lent_order}
 use Rattle.toc.proofs.reading.read_toc_with_order.Goals as goal

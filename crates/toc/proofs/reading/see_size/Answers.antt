@@ -1,5 +1,4 @@
 -- `see_size`: the selector, and what it names.
-use Rattle.std.proofs.Common.{rules}
 use Rattle.toc.proofs.Sizing.{selector_lt, sized_is}
 use Rattle.toc.proofs.reading.see_size.Goals as goal
 

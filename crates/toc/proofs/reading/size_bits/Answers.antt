@@ -1,5 +1,5 @@
 -- `size_bits`: a byte of the number.
-use Rattle.std.proofs.Common.{◌∙◌, rules}
+use Rattle.std.proofs.Common.{◌∙◌}
 use lib.Bits.{and_mask}
 use Rattle.toc.proofs.Sizing.{size_widths}
 use Rattle.toc.proofs.reading.size_bits.Goals as goal

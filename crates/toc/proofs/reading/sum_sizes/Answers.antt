@@ -1,6 +1,6 @@
 -- `sum_sizes`: after k turns the walk has passed k sizes, and the total is their sum; two at once are two turns.
-use Rattle.std.proofs.Common.{◌-◌, ◌≤◌, arith, rules, leb-true}
-use Rattle.toc.proofs.Walking.{Walking, walking_none, walking_more, walking_fits, pair_first_fits, pair_second_fits, pair_more, sum_done}
+use Rattle.std.proofs.Common.{◌-◌, arith, leb-true}
+use Rattle.toc.proofs.Walking.{walking_none, walking_more, walking_fits, pair_first_fits, pair_second_fits, pair_more, sum_done}
 use Rattle.toc.proofs.reading.sum_sizes.Goals as goal
 
 pub loop-k-init : goal.loop-k-init

@@ -1,5 +1,4 @@
 -- `walk_sizes`: padding, the walk over the sizes, padding.
-use Rattle.std.proofs.Common.{rules}
 use Rattle.toc.proofs.Walking.{walk_done}
 use Rattle.toc.proofs.reading.walk_sizes.Goals as goal
 
