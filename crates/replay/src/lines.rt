@@ -1,8 +1,10 @@
 // Numbers on a program's output, and a program's input. The clauses say what a writer gains whose bytes are known. Of standard output no clause
 // can say it; what a program writes is compared with its file `stdout`.
-ghost use Rattle.std.specs.Prelude.{◌<◌, [], ◌∷◌, ◌++◌, length, take, true, IfOk, IsOk, OnOk};
+ghost use Rattle.std.specs.Prelude.{◌≡◌, ◌<◌, [], ◌∷◌, ◌++◌, length, take, true, Err, IfOk, IfErr, IsOk, OnOk};
 ghost use Rattle.std.specs.Fmt.{decimal};
+ghost use Rattle.std.specs.Io.Buffered.{writer_buffer, writer_inner};
 ghost use Rattle.std.specs.Io.KnownBytes.{Consumes, IsAtEnd};
+ghost use Rattle.std.specs.IoError.{error_kind};
 ghost use Rattle.replay.specs.Counts.{IsPrefixLen};
 ghost use Rattle.replay.specs.Outputs.{shown, shown_by, Gains};
 
@@ -10,7 +12,7 @@ use crate::sums::wide;
 use bits::Refusal;
 use std::alloc::Global;
 use std::io;
-use std::io::{BufWriter, Read, Stdout, Write};
+use std::io::{BufWriter, ErrorKind, Read, Stdout, Write};
 
 // Where numbers go, and the first error that writing gave: after it nothing more is written.
 #[derive(Drop)]
@@ -21,7 +23,10 @@ pub struct Output<W = BufWriter<Stdout>> {
 
 // Standard output, with a buffer in front.
 pub fn buffered(alloc: Global, to: Stdout) -> io::Result<Output>
-    ensures { IfOk result (λ out. IsOk out.failed) }
+    ensures intact { IfOk result (λ out. IsOk out.failed) }
+    ensures inner { IfOk result (λ out. writer_inner out.to ≡ to) }
+    ensures empty { IfOk result (λ out. writer_buffer out.to ≡ []) }
+    ensures err { IfErr result (λ e. error_kind e ≡ ErrorKind.OutOfMemory) }
 {
     Ok(Output {
         to: BufWriter::new(alloc, to)?,
@@ -52,7 +57,8 @@ impl<W: Write> Output<W> {
     pub fn finish(mut self) -> io::Result<()>
     where
         W: Drop,
-        ensures { OnOk result (IsOk self.failed) }
+        ensures ok { OnOk result (IsOk self.failed) }
+        ensures err { IfErr self.failed (λ e. result ≡ Err e) }
     {
         self.failed?;
         self.to.flush()
