@@ -1,1 +1,2 @@
+pub mod Gaining
 pub mod Walks

@@ -1,2 +1,4 @@
+pub mod Counts
+pub mod Outputs
 pub mod Sums
 pub mod Words

@@ -1,30 +1,117 @@
-// Numbers on standard output. These functions answer nothing and are lent nothing to change, so they have nothing to promise; what a
-// program writes is compared with its file `stdout`.
+// Numbers on a program's output, and a program's input. The clauses say what a writer gains whose bytes are known. Of standard output no clause
+// can say it; what a program writes is compared with its file `stdout`.
+ghost use Rattle.std.specs.Prelude.{◌≡◌, ◌<◌, [], ◌∷◌, ◌++◌, length, take, true, Err, IfOk, IfErr, IsOk, OnOk};
+ghost use Rattle.std.specs.Fmt.{decimal};
+ghost use Rattle.std.specs.Io.Buffered.{writer_buffer, writer_inner};
+ghost use Rattle.std.specs.Io.KnownBytes.{Consumes, IsAtEnd};
+ghost use Rattle.std.specs.IoError.{error_kind};
+ghost use Rattle.replay.specs.Counts.{IsPrefixLen};
+ghost use Rattle.replay.specs.Outputs.{shown, shown_by, Gains};
+
 use crate::sums::wide;
 use bits::Refusal;
+use std::alloc::Global;
+use std::io;
+use std::io::{BufWriter, ErrorKind, Read, Stdout, Write};
+
+// Where numbers go, and the first error that writing gave: after it nothing more is written.
+#[derive(Drop)]
+pub struct Output<W = BufWriter<Stdout>> {
+    to: W,
+    failed: io::Result<()>,
+}
+
+// Standard output, with a buffer in front.
+pub fn buffered(alloc: Global, to: Stdout) -> io::Result<Output>
+    ensures intact { IfOk result (λ out. IsOk out.failed) }
+    ensures inner { IfOk result (λ out. writer_inner out.to ≡ to) }
+    ensures empty { IfOk result (λ out. writer_buffer out.to ≡ []) }
+    ensures err { IfErr result (λ e. error_kind e ≡ ErrorKind.OutOfMemory) }
+{
+    Ok(Output {
+        to: BufWriter::new(alloc, to)?,
+        failed: Ok(()),
+    })
+}
+
+impl<W: Write> Output<W> {
+    // Some bytes.
+    pub fn text(&mut self, text: &[u8])
+        ensures { Gains W.contents self.old text.now self.new }
+    {
+        if self.failed.is_ok() {
+            self.failed = self.to.write_all(text);
+        }
+    }
+
+    // A number, with nothing behind it.
+    pub fn decimal(&mut self, n: u64)
+        ensures { Gains W.contents self.old (decimal n) self.new }
+    {
+        if self.failed.is_ok() {
+            self.failed = write!(self.to, "{n}");
+        }
+    }
+
+    // Writes out what the buffer holds, and says whether all was written.
+    pub fn finish(mut self) -> io::Result<()>
+    where
+        W: Drop,
+        ensures ok { OnOk result (IsOk self.failed) }
+        ensures err { IfErr self.failed (λ e. result ≡ Err e) }
+    {
+        self.failed?;
+        self.to.flush()
+    }
+}
 
 // A number and a tab.
-pub fn show(n: u64) {
-    io::print_decimal(1, n);
-    io::write_all(1, b"\t");
+pub fn show<W: Write>(out: &mut Output<W>, n: u64)
+    ensures { Gains W.contents out.old (shown n) out.new }
+{
+    out.decimal(n);
+    out.text(b"\t");
 }
 
 // Each of some numbers and a tab.
-pub fn cells(xs: &[u32]) {
+pub fn cells<W: Write>(out: &mut Output<W>, xs: &[u32])
+    ensures { Gains W.contents out.old (shown_by (λ n. n) true xs.now) out.new }
+{
     let mut i: usize = 0;
     while i < xs.len() {
-        show(wide(xs[i]));
+        show(out, wide(xs[i]));
         i += 1;
     }
 }
 
 // A refusal's number and its place.
-pub fn refusal(r: Refusal) {
-    show(r.number as u64);
-    show(r.place);
+pub fn refusal<W: Write>(out: &mut Output<W>, r: Refusal)
+    ensures { Gains W.contents out.old (shown r.number ++ shown r.place) out.new }
+{
+    show(out, r.number as u64);
+    show(out, r.place);
 }
 
 // The end of a line.
-pub fn end() {
-    io::write_all(1, b"\n");
+pub fn end<W: Write>(out: &mut Output<W>)
+    ensures { Gains W.contents out.old (10 ∷ []) out.new }
+{
+    out.text(b"\n");
+}
+
+// Reads until the buffer is full or the input ends, and answers how many bytes came. They stand at the front.
+pub fn read_full<R: Read>(input: &mut R, buf: &mut [u8]) -> io::Result<usize>
+    ensures in_bounds { IfOk result (λ n. IsPrefixLen n buf.new) }
+    ensures bytes { IfOk result (λ n. Consumes (R.remaining input.old) (R.remaining input.new) (take n buf.new)) }
+    ensures end { IfOk result (λ n. n < length buf.new → IsAtEnd (R.remaining input.new)) }
+{
+    let mut done: usize = 0;
+    while done < buf.len() {
+        let n = input.read(&mut buf[done..])?;
+        if n == 0 {
+            break;
+        }
+        done += n;
+    }
+    Ok(done)
 }

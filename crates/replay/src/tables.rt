@@ -1,7 +1,7 @@
 // Tables to lend: made, filled with what a record says, and how much of one is lent.
 ghost use Rattle.std.specs.Prelude.{◌≡◌, min, length, replicate};
 ghost use Rattle.std.proofs.lemmas.List.Edits.{sets};
-ghost use Rattle.io.specs.Counts.{IsPrefixLen};
+ghost use Rattle.replay.specs.Counts.{IsPrefixLen};
 ghost use Rattle.replay.specs.Words.{words_at, down};
 
 use crate::words::number;
@@ -27,19 +27,22 @@ pub fn bytes(byte: u8) -> [u8; 270000]
 
 // How much is lent of a slice: as much as is asked for, as far as it goes.
 pub fn room_bytes(bytes: &[u8], n: u32) -> usize
-    ensures { (result ≡ min n (length bytes.now)) × IsPrefixLen result bytes.now }
+    ensures value { result ≡ min n (length bytes.now) }
+    ensures in_bounds { IsPrefixLen result bytes.now }
 {
     fill::least(n as usize, bytes.len())
 }
 
 pub fn room_words(words: &[u32], n: u32) -> usize
-    ensures { (result ≡ min n (length words.now)) × IsPrefixLen result words.now }
+    ensures value { result ≡ min n (length words.now) }
+    ensures in_bounds { IsPrefixLen result words.now }
 {
     fill::least(n as usize, words.len())
 }
 
 pub fn room_longs(longs: &[u64], n: u32) -> usize
-    ensures { (result ≡ min n (length longs.now)) × IsPrefixLen result longs.now }
+    ensures value { result ≡ min n (length longs.now) }
+    ensures in_bounds { IsPrefixLen result longs.now }
 {
     fill::least(n as usize, longs.len())
 }

@@ -3,18 +3,23 @@
 #![tactic(auto)]
 
 use bits::{Choice, Choices, Cursor, Field, Sum};
+use replay::Output;
+use std::io;
 
-fn main() {
+fn main(rt: HostRuntime) -> io::Result<()> {
+    let mut input = rt.stdin();
+    let mut out = replay::buffered(rt.alloc(), rt.stdout())?;
     let mut r = [0u8; 128];
     for _ in 0..100000u32 {
-        if io::read_full(0, &mut r) != 128 {
-            return;
+        if replay::read_full(&mut input, &mut r)? != 128 {
+            break;
         }
-        record(&r);
+        record(&mut out, &r);
     }
+    out.finish()
 }
 
-fn record(r: &[u8]) {
+fn record(out: &mut Output, r: &[u8]) {
     if r.len() < 128 {
         return;
     }
@@ -24,35 +29,38 @@ fn record(r: &[u8]) {
         fault: bits::refused(q.d, 7),
     };
     let end = 64 + (replay::word(r, 56) % 65) as usize;
-    run(r, q.a, q.b == 1, &r[64..end], c);
+    run(out, r, q.a, q.b == 1, &r[64..end], c);
 }
 
-fn run(r: &[u8], kind: u32, on: bool, s: &[u8], c: Cursor) {
+fn run(out: &mut Output, r: &[u8], kind: u32, on: bool, s: &[u8], c: Cursor) {
     let q = replay::four(r, 16);
     match kind {
-        0 => field(bits::read_bits_if(s, c, on, q.a, q.b)),
-        1 => field(bits::read_bool_if(s, c, on, q.b)),
-        2 => field(numbers::read_u32_if(s, c, on, choices(r), q.b)),
-        3 => field(numbers::read_enum_if(s, c, on, choices(r), q.a, q.b)),
+        0 => field(out, bits::read_bits_if(s, c, on, q.a, q.b)),
+        1 => field(out, bits::read_bool_if(s, c, on, q.b)),
+        2 => field(out, numbers::read_u32_if(s, c, on, choices(r), q.b)),
+        3 => field(out, numbers::read_enum_if(s, c, on, choices(r), q.a, q.b)),
         4 => {
             let w = numbers::read_u64_if(s, c, on, replay::long(r, 24));
-            replay::show(w.value);
-            cursor(w.next);
+            replay::show(out, w.value);
+            cursor(out, w.next);
         }
-        5 => signed(numbers::unpack_signed(q.a)),
-        6 => field(numbers::read_f16_if(s, c, on, q.b)),
-        7 => last(replay::pattern(numbers::f16_to_f32(q.a)) as u64),
-        8 => cursor(bits::zero_pad_to_byte(s, c)),
-        9 => cursor(numbers::skip_bits_if(
-            s,
-            c,
-            on,
-            Sum {
-                high: replay::long(r, 32),
-                low: replay::long(r, 24),
-            },
-        )),
-        _ => cursor(numbers::read_extensions_if(s, c, on)),
+        5 => signed(out, numbers::unpack_signed(q.a)),
+        6 => field(out, numbers::read_f16_if(s, c, on, q.b)),
+        7 => last(out, replay::pattern(numbers::f16_to_f32(q.a)) as u64),
+        8 => cursor(out, bits::zero_pad_to_byte(s, c)),
+        9 => cursor(
+            out,
+            numbers::skip_bits_if(
+                s,
+                c,
+                on,
+                Sum {
+                    high: replay::long(r, 32),
+                    low: replay::long(r, 24),
+                },
+            ),
+        ),
+        _ => cursor(out, numbers::read_extensions_if(s, c, on)),
     }
 }
 
@@ -79,27 +87,27 @@ fn choices(r: &[u8]) -> Choices {
     }
 }
 
-fn field(f: Field) {
-    replay::show(f.value as u64);
-    cursor(f.next);
+fn field(out: &mut Output, f: Field) {
+    replay::show(out, f.value as u64);
+    cursor(out, f.next);
 }
 
-fn cursor(c: Cursor) {
-    replay::show(c.at);
-    replay::show(c.fault.number as u64);
-    last(c.fault.place);
+fn cursor(out: &mut Output, c: Cursor) {
+    replay::show(out, c.at);
+    replay::show(out, c.fault.number as u64);
+    last(out, c.fault.place);
 }
 
 // A number below 0 is shown as ~k for -1 - k.
-fn signed(z: i32) {
+fn signed(out: &mut Output, z: i32) {
     if z < 0 {
-        io::write_all(1, b"~");
+        out.text(b"~");
     }
-    last(replay::size(z) as u64);
+    last(out, replay::size(z) as u64);
 }
 
 // The last number of a line.
-fn last(n: u64) {
-    io::print_decimal(1, n);
-    replay::end();
+fn last(out: &mut Output, n: u64) {
+    out.decimal(n);
+    replay::end(out);
 }

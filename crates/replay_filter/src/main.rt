@@ -5,43 +5,48 @@
 #![tactic(auto)]
 
 use filter::{EpfParams, Gabor};
-use replay::Numbers;
+use replay::{Numbers, Output};
+use std::io;
 
-fn main() {
+fn main(rt: HostRuntime) -> io::Result<()> {
+    let mut input = rt.stdin();
+    let mut out = replay::buffered(rt.alloc(), rt.stdout())?;
     let mut r = [0u8; 96];
     for _ in 0..100000u32 {
-        if io::read_full(0, &mut r) != 96 {
-            return;
+        if replay::read_full(&mut input, &mut r)? != 96 {
+            break;
         }
-        record(&r);
+        record(&mut out, &r);
     }
+    out.finish()
 }
 
-fn record(r: &[u8]) {
+fn record(out: &mut Output, r: &[u8]) {
     if r.len() < 96 {
         return;
     }
     let q = replay::four(r, 0);
     let end = 16 + (q.c % 81) as usize;
     let n = if q.a < 4 {
-        bundle(&r[16..end], q)
+        bundle(out, &r[16..end], q)
     } else {
         filter::is_unbalanced(q.b, q.c) as u64
     };
-    io::print_decimal(1, n);
-    replay::end();
+    out.decimal(n);
+    replay::end(out);
 }
 
-fn bundle(s: &[u8], q: Numbers) -> u64 {
+fn bundle(out: &mut Output, s: &[u8], q: Numbers) -> u64 {
     let place = q.b as u64;
     let c = bits::refuse_if(bits::begin(place), q.d != 0, q.d, place);
     let f = filter::read_restoration_filter_if(s, c, q.a % 2 == 1, 1 < q.a);
     let fault = f.next.fault;
-    replay::refusal(fault);
-    replay::show(f.next.at);
+    replay::refusal(out, fault);
+    replay::show(out, f.next.at);
     let v = f.value;
     let epf = v.epf;
     values(
+        out,
         fault.number == 0,
         v.gab,
         epf.enabled(),
@@ -50,7 +55,14 @@ fn bundle(s: &[u8], q: Numbers) -> u64 {
     )
 }
 
-fn values(full: bool, gab: Gabor, enabled: bool, iters: u32, p: EpfParams) -> u64 {
+fn values(
+    out: &mut Output,
+    full: bool,
+    gab: Gabor,
+    enabled: bool,
+    iters: u32,
+    p: EpfParams,
+) -> u64 {
     let weights = gab.weights;
     let lut = p.sharp_lut;
     let scale = p.channel_scale;
@@ -61,10 +73,10 @@ fn values(full: bool, gab: Gabor, enabled: bool, iters: u32, p: EpfParams) -> u6
         p.border_sad_mul,
         p.sigma_for_modular,
     ];
-    let a = replay::sum_words(false, full, 0, &[gab.enabled() as u32]);
-    let b = replay::sum_floats(false, full, a, &weights);
-    let c = replay::sum_words(false, full, b, &[enabled as u32, iters]);
-    let d = replay::sum_floats(false, full, c, &lut);
-    let e = replay::sum_floats(false, full, d, &scale);
-    replay::sum_floats(false, full, e, &last)
+    let a = replay::sum_words(out, false, full, 0, &[gab.enabled() as u32]);
+    let b = replay::sum_floats(out, false, full, a, &weights);
+    let c = replay::sum_words(out, false, full, b, &[enabled as u32, iters]);
+    let d = replay::sum_floats(out, false, full, c, &lut);
+    let e = replay::sum_floats(out, false, full, d, &scale);
+    replay::sum_floats(out, false, full, e, &last)
 }

@@ -10,6 +10,9 @@ use bits::Refusal;
 use grid::Frame;
 use header::Facts;
 use order::SectionNumber;
+use replay::Output;
+use std::io;
+use std::io::Stdin;
 use toc::TocRead;
 
 // Where a header ends, and its frame.
@@ -19,33 +22,43 @@ struct Beginning {
     frame: Frame,
 }
 
-fn main() {
+fn main(rt: HostRuntime) -> io::Result<()> {
+    let mut input = rt.stdin();
+    let mut out = replay::buffered(rt.alloc(), rt.stdout())?;
     let mut r = [0u8; 64];
     for _ in 0..100000u32 {
-        if io::read_full(0, &mut r) != 64 {
-            return;
+        if replay::read_full(&mut input, &mut r)? != 64 {
+            break;
         }
-        record(&r);
+        record(&mut input, &mut out, &r)?;
     }
+    out.finish()
 }
 
-fn record(r: &[u8]) {
-    let mut input = io::buffer();
-    let mut numbers = io::buffer();
-    let n = replay::room_bytes(&input, replay::word(r, 32));
+fn record(input: &mut Stdin, out: &mut Output, r: &[u8]) -> io::Result<()> {
+    let mut given = [0u8; 4096];
+    let mut numbers = [0u8; 4096];
+    let n = replay::room_bytes(&given, replay::word(r, 32));
     let m = replay::room_bytes(&numbers, replay::word(r, 0) % 1025 * 4);
-    one(r, &mut input[..n], &mut numbers[..m]);
+    one(input, out, r, &mut given[..n], &mut numbers[..m])
 }
 
-fn one(r: &[u8], s: &mut [u8], numbers: &mut [u8]) {
-    io::read_full(0, s);
-    io::read_full(0, numbers);
-    let h = head(s, facts(r));
+fn one(
+    input: &mut Stdin,
+    out: &mut Output,
+    r: &[u8],
+    s: &mut [u8],
+    numbers: &mut [u8],
+) -> io::Result<()> {
+    replay::read_full(input, s)?;
+    replay::read_full(input, numbers)?;
+    let h = head(out, s, facts(r));
     let m = replay::word(r, 0);
-    tables(s, h.frame, h.end, numbers, 0);
+    tables(out, s, h.frame, h.end, numbers, 0);
     if 0 < m {
-        tables(s, h.frame, replay::word(r, 20) as u64, numbers, m);
+        tables(out, s, h.frame, replay::word(r, 20) as u64, numbers, m);
     }
+    Ok(())
 }
 
 fn facts(r: &[u8]) -> Facts {
@@ -61,36 +74,40 @@ fn facts(r: &[u8]) -> Facts {
     }
 }
 
-fn head(s: &[u8], facts: Facts) -> Beginning {
+fn head(out: &mut Output, s: &[u8], facts: Facts) -> Beginning {
     let mut name = [0u8; 1071];
     let mut upsampling = [0u32; 256];
     let mut blending = [0u32; 1024];
     let a = header::read_frame_header(s, facts, &mut name, &mut upsampling, &mut blending);
     let h = a.header;
-    begun(a.refusal, a.end, h.frame())
+    begun(out, a.refusal, a.end, h.frame())
 }
 
-fn begun(refusal: Refusal, end: u64, f: Frame) -> Beginning {
-    replay::refusal(refusal);
-    replay::show(end);
-    replay::cells(&[
-        f.width,
-        f.height,
-        f.upsampling,
-        f.lf_level,
-        f.group_size_shift,
-        f.num_passes,
-    ]);
-    replay::end();
+fn begun(out: &mut Output, refusal: Refusal, end: u64, f: Frame) -> Beginning {
+    replay::refusal(out, refusal);
+    replay::show(out, end);
+    replay::cells(
+        out,
+        &[
+            f.width,
+            f.height,
+            f.upsampling,
+            f.lf_level,
+            f.group_size_shift,
+            f.num_passes,
+        ],
+    );
+    replay::end(out);
     Beginning { end, frame: f }
 }
 
-fn tables(s: &[u8], f: Frame, place: u64, numbers: &[u8], lent: u32) {
+fn tables(out: &mut Output, s: &[u8], f: Frame, place: u64, numbers: &[u8], lent: u32) {
     let mut offsets = replay::longs(0);
     let mut sizes = replay::table(0);
     let mut order = replay::table(0);
     let mut inverse = replay::table(0);
     work(
+        out,
         s,
         f,
         place,
@@ -104,6 +121,7 @@ fn tables(s: &[u8], f: Frame, place: u64, numbers: &[u8], lent: u32) {
 }
 
 fn work(
+    out: &mut Output,
     s: &[u8],
     f: Frame,
     place: u64,
@@ -115,9 +133,9 @@ fn work(
     inverse: &mut [u32],
 ) {
     let t = entry(s, f, place, numbers, lent, offsets, sizes, order, inverse);
-    let count = answered(t);
+    let count = answered(out, t);
     let n = replay::room_words(order, count);
-    rows(f, count, offsets, sizes, &order[..n]);
+    rows(out, f, count, offsets, sizes, &order[..n]);
 }
 
 // The first entry where no order is lent, else the second.
@@ -142,43 +160,50 @@ fn entry(
 }
 
 // 0, the count, the data start and the total; or 1 and the place; or 2, the refusal and its place. How many sections there are to show.
-fn answered(t: TocRead) -> u32 {
+fn answered(out: &mut Output, t: TocRead) -> u32 {
     let count = match t {
         TocRead::Table(x) => {
-            replay::cells(&[0, x.count]);
-            replay::show(x.bookmark);
-            replay::show(x.total_byte_size);
+            replay::cells(out, &[0, x.count]);
+            replay::show(out, x.bookmark);
+            replay::show(out, x.total_byte_size);
             x.count
         }
         TocRead::OrderNeeded(p) => {
-            replay::show(1);
-            replay::show(p);
+            replay::show(out, 1);
+            replay::show(out, p);
             0
         }
         TocRead::Refused(e) => {
-            replay::show(2);
-            replay::refusal(e);
+            replay::show(out, 2);
+            replay::refusal(out, e);
             0
         }
     };
-    replay::end();
+    replay::end(out);
     count
 }
 
-fn rows(f: Frame, count: u32, offsets: &[u64], sizes: &[u32], order: &[u32]) {
+fn rows(out: &mut Output, f: Frame, count: u32, offsets: &[u64], sizes: &[u32], order: &[u32]) {
     for i in 0..count {
-        row(f, SectionNumber(i), offsets, sizes, order);
+        row(out, f, SectionNumber(i), offsets, sizes, order);
     }
 }
 
-fn row(f: Frame, n: SectionNumber, offsets: &[u64], sizes: &[u32], order: &[u32]) {
+fn row(
+    out: &mut Output,
+    f: Frame,
+    n: SectionNumber,
+    offsets: &[u64],
+    sizes: &[u32],
+    order: &[u32],
+) {
     let a = sections::kind_of(f, n);
     let kind = a.kind;
     let k = sections::kind_numbers(kind);
     let t = sections::sent_of_section(f, order, n);
     let p = sections::section_at(f, offsets, sizes, n);
-    replay::cells(&[k.kind, k.pass_idx, k.group_idx, t.sent.0]);
-    replay::show(p.offset);
-    replay::show(p.size as u64);
-    replay::end();
+    replay::cells(out, &[k.kind, k.pass_idx, k.group_idx, t.sent.0]);
+    replay::show(out, p.offset);
+    replay::show(out, p.size as u64);
+    replay::end(out);
 }

@@ -9,66 +9,85 @@
 mod shown;
 
 use header::Facts;
+use replay::Output;
+use std::io;
+use std::io::Stdin;
 
-fn main() {
+fn main(rt: HostRuntime) -> io::Result<()> {
+    let mut input = rt.stdin();
+    let mut out = replay::buffered(rt.alloc(), rt.stdout())?;
     let mut r = [0u8; 64];
     for _ in 0..100000u32 {
-        if io::read_full(0, &mut r) != 64 {
-            return;
+        if replay::read_full(&mut input, &mut r)? != 64 {
+            break;
         }
-        record(&r);
+        record(&mut input, &mut out, &r)?;
     }
+    out.finish()
 }
 
-fn record(r: &[u8]) {
+fn record(input: &mut Stdin, out: &mut Output, r: &[u8]) -> io::Result<()> {
     if replay::word(r, 0) == 2 {
-        shown::questions(replay::word(r, 4), replay::long(r, 8));
-        return;
+        shown::questions(out, replay::word(r, 4), replay::long(r, 8));
+        return Ok(());
     }
-    let mut input = io::buffer();
-    let n = replay::room_bytes(&input, replay::word(r, 32));
-    runs(r, &mut input[..n]);
+    let mut given = [0u8; 4096];
+    let n = replay::room_bytes(&given, replay::word(r, 32));
+    runs(input, out, r, &mut given[..n])
 }
 
-fn runs(r: &[u8], s: &mut [u8]) {
-    io::read_full(0, s);
+fn runs(input: &mut Stdin, out: &mut Output, r: &[u8], s: &mut [u8]) -> io::Result<()> {
+    replay::read_full(input, s)?;
     if replay::word(r, 0) == 1 {
-        cuts(r, s);
+        cuts(out, r, s);
     }
-    one(r, s);
+    one(out, r, s);
+    Ok(())
 }
 
 // Every prefix but the whole.
-fn cuts(r: &[u8], s: &[u8]) {
+fn cuts(out: &mut Output, r: &[u8], s: &[u8]) {
     let mut k: usize = 0;
     while k < s.len() {
-        one(r, &s[..k]);
+        one(out, r, &s[..k]);
         k += 1;
     }
 }
 
-fn one(r: &[u8], s: &[u8]) {
+fn one(out: &mut Output, r: &[u8], s: &[u8]) {
     let mut name = [165u8; 1080];
     let mut upsampling = [2779096485u32; 260];
     let mut blending = [2779096485u32; 1030];
-    read(r, s, &mut name, &mut upsampling, &mut blending);
-    replay::show(replay::sum_bytes(true, 0, &name));
-    replay::show(replay::sum_words(true, false, 0, &upsampling));
-    io::print_decimal(1, replay::sum_words(true, false, 0, &blending));
-    replay::end();
+    read(out, r, s, &mut name, &mut upsampling, &mut blending);
+    replay::show(out, replay::sum_bytes(true, 0, &name));
+    let words = replay::sum_words(out, true, false, 0, &upsampling);
+    replay::show(out, words);
+    let last = replay::sum_words(out, true, false, 0, &blending);
+    out.decimal(last);
+    replay::end(out);
 }
 
-fn read(r: &[u8], s: &[u8], name: &mut [u8], upsampling: &mut [u32], blending: &mut [u32]) {
+fn read(
+    out: &mut Output,
+    r: &[u8],
+    s: &[u8],
+    name: &mut [u8],
+    upsampling: &mut [u32],
+    blending: &mut [u32],
+) {
     let a = replay::room_bytes(name, replay::word(r, 20));
     let b = replay::room_words(upsampling, replay::word(r, 24));
     let c = replay::room_words(blending, replay::word(r, 28));
-    shown::answer(header::read_frame_header(
-        s,
-        facts(r),
-        &mut name[..a],
-        &mut upsampling[..b],
-        &mut blending[..c],
-    ));
+    shown::answer(
+        out,
+        header::read_frame_header(
+            s,
+            facts(r),
+            &mut name[..a],
+            &mut upsampling[..b],
+            &mut blending[..c],
+        ),
+    );
 }
 
 fn facts(r: &[u8]) -> Facts {

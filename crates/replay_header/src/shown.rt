@@ -1,12 +1,13 @@
 // Every number of a header, shown where nothing was refused, and all of them in one.
 use filter::{EpfParams, Gabor};
 use header::{FrameHeader, HeaderAnswer, Passes};
+use replay::Output;
 use types::{BlendMode, Encoding, FrameFlags, FrameType};
 
-pub fn answer(a: HeaderAnswer) {
+pub fn answer(out: &mut Output, a: HeaderAnswer) {
     let refusal = a.refusal;
-    replay::refusal(refusal);
-    replay::show(a.end);
+    replay::refusal(out, refusal);
+    replay::show(out, a.end);
     let full = refusal.number == 0;
     let h = a.header;
     let p = h.passes;
@@ -21,24 +22,25 @@ pub fn answer(a: HeaderAnswer) {
         p.num_passes,
         p.num_ds,
     ];
-    let b = opening(full, h);
-    let c = arrays(full, b, jpeg, six, p);
-    let d = closing(full, c, h);
+    let b = opening(out, full, h);
+    let c = arrays(out, full, b, jpeg, six, p);
+    let d = closing(out, full, c, h);
     let three = [v.gab.enabled() as u32, epf.enabled() as u32, epf.iters];
-    replay::show(filters(full, d, three, v.gab, epf.params));
+    let all = filters(out, full, d, three, v.gab, epf.params);
+    replay::show(out, all);
 }
 
-fn opening(full: bool, h: FrameHeader) -> u64 {
+fn opening(out: &mut Output, full: bool, h: FrameHeader) -> u64 {
     let kind = h.frame_type;
     let coded = h.encoding;
-    let a = replay::sum_words(true, full, 0, &[frame_type(kind), encoding(coded)]);
-    let b = flags(full, a, h.flags);
+    let a = replay::sum_words(out, true, full, 0, &[frame_type(kind), encoding(coded)]);
+    let b = flags(out, full, a, h.flags);
     let two = [h.do_ycbcr as u32, h.encoded_color_channels];
-    replay::sum_words(true, full, b, &two)
+    replay::sum_words(out, true, full, b, &two)
 }
 
-fn flags(full: bool, sum: u64, f: FrameFlags) -> u64 {
-    let a = replay::sum_longs(true, full, sum, &[f.0]);
+fn flags(out: &mut Output, full: bool, sum: u64, f: FrameFlags) -> u64 {
+    let a = replay::sum_longs(out, true, full, sum, &[f.0]);
     let five = [
         f.noise() as u32,
         f.patches() as u32,
@@ -46,22 +48,22 @@ fn flags(full: bool, sum: u64, f: FrameFlags) -> u64 {
         f.use_lf_frame() as u32,
         f.skip_adaptive_lf_smoothing() as u32,
     ];
-    replay::sum_words(true, full, a, &five)
+    replay::sum_words(out, true, full, a, &five)
 }
 
-fn arrays(full: bool, sum: u64, jpeg: [u32; 3], six: [u32; 6], p: Passes) -> u64 {
+fn arrays(out: &mut Output, full: bool, sum: u64, jpeg: [u32; 3], six: [u32; 6], p: Passes) -> u64 {
     let shift = p.shift;
     let downsample = p.downsample;
     let last_pass = p.last_pass;
-    let a = replay::sum_words(true, full, sum, &jpeg);
-    let b = replay::sum_words(true, full, a, &six);
-    let c = replay::sum_words(true, full, b, &shift);
-    let d = replay::sum_words(true, full, c, &downsample);
-    replay::sum_words(true, full, d, &last_pass)
+    let a = replay::sum_words(out, true, full, sum, &jpeg);
+    let b = replay::sum_words(out, true, full, a, &six);
+    let c = replay::sum_words(out, true, full, b, &shift);
+    let d = replay::sum_words(out, true, full, c, &downsample);
+    replay::sum_words(out, true, full, d, &last_pass)
 }
 
 // The crop, the blending, the closing fields, and what is asked of a header. A number below 0 is 1 and k for -1 - k.
-fn closing(full: bool, sum: u64, h: FrameHeader) -> u64 {
+fn closing(out: &mut Output, full: bool, sum: u64, h: FrameHeader) -> u64 {
     let i = h.blending_info;
     let mode = i.mode;
     let f = h.frame();
@@ -96,11 +98,18 @@ fn closing(full: bool, sum: u64, h: FrameHeader) -> u64 {
         f.group_size_shift,
         f.num_passes,
     ];
-    replay::sum_words(true, full, sum, &all)
+    replay::sum_words(out, true, full, sum, &all)
 }
 
 // The flags and the iterations are printed, the values are in the one number alone.
-fn filters(full: bool, sum: u64, three: [u32; 3], gab: Gabor, p: EpfParams) -> u64 {
+fn filters(
+    out: &mut Output,
+    full: bool,
+    sum: u64,
+    three: [u32; 3],
+    gab: Gabor,
+    p: EpfParams,
+) -> u64 {
     let weights = gab.weights;
     let lut = p.sharp_lut;
     let scale = p.channel_scale;
@@ -111,14 +120,14 @@ fn filters(full: bool, sum: u64, three: [u32; 3], gab: Gabor, p: EpfParams) -> u
         p.border_sad_mul,
         p.sigma_for_modular,
     ];
-    let a = replay::sum_words(true, full, sum, &three);
-    let b = replay::sum_floats(true, false, a, &weights);
-    let c = replay::sum_floats(true, false, b, &lut);
-    let d = replay::sum_floats(true, false, c, &scale);
-    replay::sum_floats(true, false, d, &last)
+    let a = replay::sum_words(out, true, full, sum, &three);
+    let b = replay::sum_floats(out, true, false, a, &weights);
+    let c = replay::sum_floats(out, true, false, b, &lut);
+    let d = replay::sum_floats(out, true, false, c, &scale);
+    replay::sum_floats(out, true, false, d, &last)
 }
 
-pub fn questions(n: u32, bits: u64) {
+pub fn questions(out: &mut Output, n: u32, bits: u64) {
     let t = type_of(n);
     let e = encoding_of(n);
     let m = mode_of(n);
@@ -131,9 +140,10 @@ pub fn questions(n: u32, bits: u64) {
         blend_mode(m),
         m.use_alpha() as u32,
     ];
-    let sum = replay::sum_words(true, true, 0, &seven);
-    io::print_decimal(1, flags(true, sum, FrameFlags(bits)));
-    replay::end();
+    let sum = replay::sum_words(out, true, true, 0, &seven);
+    let all = flags(out, true, sum, FrameFlags(bits));
+    out.decimal(all);
+    replay::end(out);
 }
 
 // The cases by number, the last one for any other.

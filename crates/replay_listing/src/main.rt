@@ -4,38 +4,51 @@
 // were 7, and then the text.
 #![tactic(auto)]
 
+use replay::Output;
+use std::io;
+use std::io::Stdin;
 
-fn main() {
+fn main(rt: HostRuntime) -> io::Result<()> {
+    let mut input = rt.stdin();
+    let mut lines = replay::buffered(rt.alloc(), rt.stdout())?;
     let mut r = [0u8; 12];
     for _ in 0..100000u32 {
-        if io::read_full(0, &mut r) != 12 {
-            return;
+        if replay::read_full(&mut input, &mut r)? != 12 {
+            break;
         }
-        record(&r);
+        record(&mut input, &mut lines, &r)?;
     }
+    lines.finish()
 }
 
-fn record(r: &[u8]) {
+fn record(from: &mut Stdin, lines: &mut Output, r: &[u8]) -> io::Result<()> {
     let mut input = replay::bytes(0);
     let mut out = replay::bytes(7);
     let m = replay::room_bytes(&out, replay::word(r, 8));
-    run(r, &mut input, &mut out[..m]);
+    run(from, lines, r, &mut input, &mut out[..m])
 }
 
-fn run(r: &[u8], input: &mut [u8], out: &mut [u8]) {
+fn run(
+    from: &mut Stdin,
+    lines: &mut Output,
+    r: &[u8],
+    input: &mut [u8],
+    out: &mut [u8],
+) -> io::Result<()> {
     let given = replay::room_bytes(input, replay::word(r, 4));
-    io::read_full(0, &mut input[..given]);
+    replay::read_full(from, &mut input[..given])?;
     let n = replay::room_bytes(input, replay::word(r, 0));
-    work(&input[..n], out);
+    work(lines, &input[..n], out);
+    Ok(())
 }
 
-fn work(s: &[u8], out: &mut [u8]) {
+fn work(lines: &mut Output, s: &[u8], out: &mut [u8]) {
     let a = listing_job::list_frame(s, out);
     let length = a.length;
-    replay::show(length as u64);
-    replay::refusal(a.refusal);
+    replay::show(lines, length as u64);
+    replay::refusal(lines, a.refusal);
     let n = fill::least(length, out.len());
-    replay::show(replay::sum_bytes(false, 0, &out[n..]));
-    replay::end();
-    io::write_all(1, &out[0..n]);
+    replay::show(lines, replay::sum_bytes(false, 0, &out[n..]));
+    replay::end(lines);
+    lines.text(&out[0..n]);
 }

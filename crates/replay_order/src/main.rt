@@ -3,26 +3,36 @@
 // length, a number, and ten words.
 #![tactic(auto)]
 
-use replay::Numbers;
+use replay::{Numbers, Output};
+use std::io;
 
-fn main() {
+fn main(rt: HostRuntime) -> io::Result<()> {
+    let mut input = rt.stdin();
+    let mut out = replay::buffered(rt.alloc(), rt.stdout())?;
     let mut r = [0u8; 60];
     for _ in 0..100000u32 {
-        if io::read_full(0, &mut r) != 60 {
-            return;
+        if replay::read_full(&mut input, &mut r)? != 60 {
+            break;
         }
-        record(&r);
+        record(&mut out, &r);
     }
+    out.finish()
 }
 
-fn record(r: &[u8]) {
+fn record(out: &mut Output, r: &[u8]) {
     let p = replay::four(r, 0);
     let mut entries = replay::table(0);
     let mut table = replay::table(7);
     make(r, p, &mut entries);
     let n = replay::room_words(&entries, p.b);
     let m = replay::room_words(&table, p.d);
-    act(p.c, replay::word(r, 16), &entries[..n], &mut table[..m]);
+    act(
+        out,
+        p.c,
+        replay::word(r, 16),
+        &entries[..n],
+        &mut table[..m],
+    );
 }
 
 fn make(r: &[u8], p: Numbers, entries: &mut [u32]) {
@@ -34,39 +44,43 @@ fn make(r: &[u8], p: Numbers, entries: &mut [u32]) {
     fill::put_u32(entries, replay::word(r, 20) as usize, replay::word(r, 24));
 }
 
-fn act(count: u32, number: u32, entries: &[u32], table: &mut [u32]) {
-    answers(entries, count, number, table);
-    show(table);
+fn act(out: &mut Output, count: u32, number: u32, entries: &[u32], table: &mut [u32]) {
+    answers(out, entries, count, number, table);
+    show(out, table);
 }
 
 // The check, the inverse, a section's sent number through the order, and a sent number's section through the table.
-fn answers(entries: &[u32], count: u32, number: u32, table: &mut [u32]) {
-    replay::refusal(order::check_order(entries, count));
+fn answers(out: &mut Output, entries: &[u32], count: u32, number: u32, table: &mut [u32]) {
+    replay::refusal(out, order::check_order(entries, count));
     let inverted = toc::invert(entries, count, table);
     let sent = order::sent_of(entries, count, order::SectionNumber(number));
     let section = order::section_of(table, count, order::SentNumber(number));
-    replay::cells(&[
-        inverted.number,
-        sent.refusal.number,
-        sent.sent.0,
-        section.refusal.number,
-        section.section.0,
-    ]);
+    replay::cells(
+        out,
+        &[
+            inverted.number,
+            sent.refusal.number,
+            sent.sent.0,
+            section.refusal.number,
+            section.section.0,
+        ],
+    );
 }
 
 // All of the table in one number, then its first eight words.
-fn show(t: &[u32]) {
-    io::print_decimal(1, replay::sum_words(false, false, 0, t));
+fn show(out: &mut Output, t: &[u32]) {
+    let all = replay::sum_words(out, false, false, 0, t);
+    out.decimal(all);
     let n = replay::room_words(t, 8);
-    first(&t[..n]);
-    replay::end();
+    first(out, &t[..n]);
+    replay::end(out);
 }
 
-fn first(t: &[u32]) {
+fn first(out: &mut Output, t: &[u32]) {
     let mut i: usize = 0;
     while i < t.len() {
-        io::write_all(1, b"\t");
-        io::print_decimal(1, wide(t[i]));
+        out.text(b"\t");
+        out.decimal(wide(t[i]));
         i += 1;
     }
 }

@@ -7,20 +7,25 @@
 
 use grid::Frame;
 use order::{SectionAnswer, SectionNumber, SentNumber};
+use replay::Output;
 use sections::TocGroupKind;
+use std::io;
 use toc::TocRead;
 
-fn main() {
+fn main(rt: HostRuntime) -> io::Result<()> {
+    let mut input = rt.stdin();
+    let mut out = replay::buffered(rt.alloc(), rt.stdout())?;
     let mut r = [0u8; 256];
     for _ in 0..100000u32 {
-        if io::read_full(0, &mut r) != 256 {
-            return;
+        if replay::read_full(&mut input, &mut r)? != 256 {
+            break;
         }
-        record(&r);
+        record(&mut out, &r);
     }
+    out.finish()
 }
 
-fn record(r: &[u8]) {
+fn record(out: &mut Output, r: &[u8]) {
     if r.len() < 256 {
         return;
     }
@@ -31,7 +36,7 @@ fn record(r: &[u8]) {
     make_order(r, &mut lent);
     let n = replay::room_bytes(&bytes, replay::word(r, 40));
     let m = replay::room_words(&lent, replay::word(r, 68));
-    with_tables(r, &bytes[..n], &lent[..m]);
+    with_tables(out, r, &bytes[..n], &lent[..m]);
 }
 
 // Bytes of a rule; a step of 0 leaves them as they are.
@@ -58,7 +63,7 @@ fn make_order(r: &[u8], lent: &mut [u32]) {
     replay::reversed(lent, replay::word(r, 68));
 }
 
-fn with_tables(r: &[u8], s: &[u8], lent: &[u32]) {
+fn with_tables(out: &mut Output, r: &[u8], s: &[u8], lent: &[u32]) {
     let q = replay::four(r, 48);
     let mut offsets = replay::longs(7);
     let mut sizes = replay::table(7);
@@ -69,6 +74,7 @@ fn with_tables(r: &[u8], s: &[u8], lent: &[u32]) {
     let c = replay::room_words(&order, q.c);
     let d = replay::room_words(&inverse, q.d);
     work(
+        out,
         r,
         s,
         lent,
@@ -80,6 +86,7 @@ fn with_tables(r: &[u8], s: &[u8], lent: &[u32]) {
 }
 
 fn work(
+    out: &mut Output,
     r: &[u8],
     s: &[u8],
     lent: &[u32],
@@ -89,17 +96,29 @@ fn work(
     inverse: &mut [u32],
 ) {
     let f = replay::frame(r, 4);
-    show(entry(r, s, f, lent, offsets, sizes, order, inverse));
-    ask(r, f, offsets, sizes, order, inverse);
+    show(out, entry(r, s, f, lent, offsets, sizes, order, inverse));
+    ask(out, r, f, offsets, sizes, order, inverse);
 }
 
-fn ask(r: &[u8], f: Frame, offsets: &[u64], sizes: &[u32], order: &[u32], inverse: &[u32]) {
-    replay::show(replay::sum_longs(false, false, 0, offsets));
-    replay::show(replay::sum_words(false, false, 0, sizes));
-    replay::show(replay::sum_words(false, false, 0, order));
-    replay::show(replay::sum_words(false, false, 0, inverse));
-    find(r, f);
-    look(f, replay::word(r, 72), offsets, sizes, order, inverse);
+fn ask(
+    out: &mut Output,
+    r: &[u8],
+    f: Frame,
+    offsets: &[u64],
+    sizes: &[u32],
+    order: &[u32],
+    inverse: &[u32],
+) {
+    let sum = replay::sum_longs(out, false, false, 0, offsets);
+    replay::show(out, sum);
+    let sum = replay::sum_words(out, false, false, 0, sizes);
+    replay::show(out, sum);
+    let sum = replay::sum_words(out, false, false, 0, order);
+    replay::show(out, sum);
+    let sum = replay::sum_words(out, false, false, 0, inverse);
+    replay::show(out, sum);
+    find(out, r, f);
+    look(out, f, replay::word(r, 72), offsets, sizes, order, inverse);
 }
 
 fn entry(
@@ -120,34 +139,34 @@ fn entry(
 }
 
 // 0, the count, the data start and the total; or 1 and the place; or 2, the refusal and its place.
-fn show(t: TocRead) {
+fn show(out: &mut Output, t: TocRead) {
     match t {
         TocRead::Table(x) => {
-            replay::cells(&[0, x.count]);
-            replay::show(x.bookmark);
-            replay::show(x.total_byte_size);
+            replay::cells(out, &[0, x.count]);
+            replay::show(out, x.bookmark);
+            replay::show(out, x.total_byte_size);
         }
         TocRead::OrderNeeded(p) => {
-            replay::show(1);
-            replay::show(p);
+            replay::show(out, 1);
+            replay::show(out, p);
         }
         TocRead::Refused(e) => {
-            replay::show(2);
-            replay::refusal(e);
+            replay::show(out, 2);
+            replay::refusal(out, e);
         }
     }
 }
 
 // The section of a kind, the kind of a section, and the section of a sample.
-fn find(r: &[u8], f: Frame) {
+fn find(out: &mut Output, r: &[u8], f: Frame) {
     let p = replay::four(r, 72);
     let q = replay::four(r, 88);
-    section(sections::section_of_kind(f, kind(q.a, q.b, q.c)));
+    section(out, sections::section_of_kind(f, kind(q.a, q.b, q.c)));
     let a = sections::kind_of(f, SectionNumber(p.a));
     let k = a.kind;
     let n = sections::kind_numbers(k);
-    replay::cells(&[a.refusal.number, n.kind, n.pass_idx, n.group_idx]);
-    section(sections::section_of_sample(f, p.b, p.c, p.d));
+    replay::cells(out, &[a.refusal.number, n.kind, n.pass_idx, n.group_idx]);
+    section(out, sections::section_of_sample(f, p.b, p.c, p.d));
 }
 
 fn kind(k: u32, pass_idx: u32, group_idx: u32) -> TocGroupKind {
@@ -163,17 +182,25 @@ fn kind(k: u32, pass_idx: u32, group_idx: u32) -> TocGroupKind {
     }
 }
 
-fn section(a: SectionAnswer) {
-    replay::cells(&[a.refusal.number, a.section.0]);
+fn section(out: &mut Output, a: SectionAnswer) {
+    replay::cells(out, &[a.refusal.number, a.section.0]);
 }
 
 // A section's offset and size, its sent number, and the section of a sent number.
-fn look(f: Frame, n: u32, offsets: &[u64], sizes: &[u32], order: &[u32], inverse: &[u32]) {
+fn look(
+    out: &mut Output,
+    f: Frame,
+    n: u32,
+    offsets: &[u64],
+    sizes: &[u32],
+    order: &[u32],
+    inverse: &[u32],
+) {
     let p = sections::section_at(f, offsets, sizes, SectionNumber(n));
-    replay::show(p.refusal.number as u64);
-    replay::show(p.offset);
+    replay::show(out, p.refusal.number as u64);
+    replay::show(out, p.offset);
     let t = sections::sent_of_section(f, order, SectionNumber(n));
-    replay::cells(&[p.size, t.refusal.number, t.sent.0]);
-    section(sections::section_of_sent(f, inverse, SentNumber(n)));
-    replay::end();
+    replay::cells(out, &[p.size, t.refusal.number, t.sent.0]);
+    section(out, sections::section_of_sent(f, inverse, SentNumber(n)));
+    replay::end(out);
 }
