@@ -1,14 +1,16 @@
 -- Walks over a table, whatever its numbers are: all of them go into a sum, or each is put where it belongs.
-use Prim.Native.Nat.{ℕ, suc, ◌+◌, ◌-◌, ◌≤◌, ◌<◌}
+use Prim.Native.Nat.{ℕ, suc, ◌+◌, ◌-◌, ◌≤◌, ◌<◌, min}
 use native.Mathlib.Omega.{arith}
 use native.Mathlib.Nat.{sub-zero}
 use native.Mathlib.Numerals.{add-one}
-use mathlib.Core.Path.{◌≡◌, refl, ◌∙◌}
+use mathlib.Core.Path.{◌≡◌, refl, sym, ◌∙◌}
 use mathlib.Core.Bool.{Bool}
 use mathlib.Core.List.{List}
 use lib.ListN.{length, set, get_or, drop, drop_of_length-le}
 use lib.Seq.{sets, drop-cons}
 use Rattle.fill.proofs.Filling.{Filling, filling_none, filling_more, filling_all}
+use Rattle.std.proofs.Common.{length-take-le}
+use Rattle.replay.specs.Counts.{IsPrefixLen}
 use Rattle.replay.specs.Sums.{mixed, summed_by}
 use Rattle.replay.specs.Words.{listed}
 
@@ -50,3 +52,9 @@ module _ (f : ℕ → ℕ) (n : ℕ) {before : List ℕ} where
     placing_all h =
         let none : n - i ≡ 0 = omega arith in
         filling_all before 0 (listed f 0 n) out i (rw none at so_far)
+
+-- as much as is asked for, as far as it goes
+pub roomed : (xs : List ℕ) (n r : ℕ) → r ≡ min n (length xs) → (r ≡ min n (length xs)) × IsPrefixLen r xs
+roomed xs n r e =
+    let within : r ≤ length xs = omega arith in
+    (e, (within, sym (length-take-le r xs within)))
