@@ -8,7 +8,7 @@ Every frame is read three times: by the proved reader and by the Rust files (ora
 by the Python of tools/vectors. Then: the first frame begins where the image's header ends; each frame after it begins where the data of
 the one before ends; the data of the last one ends where the codestream ends. Where a table has another order of sending, the order is
 decoded by tools/jxl_entropy.py, and where the same picture was also written without, each section has the same bytes in both files.
-Where the listing program is built (`rt check list`), its listing of each file's first frame is compared too.
+Where the listing program is built (`rt run` in crates/list), its listing of each file's first frame is compared too.
 
 Needs cjxl (libjxl-tools), for `--store` nothing else; for the first form also a built oracle:
     tools/staticlib && cargo build --release --offline --manifest-path oracle/Cargo.toml

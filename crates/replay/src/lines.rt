@@ -14,7 +14,7 @@ use std::alloc::Global;
 use std::io;
 use std::io::{BufWriter, ErrorKind, Read, Stdout, Write};
 
-// Where numbers go, and the first error that writing gave: after it nothing more is written.
+// Where numbers go, and the first error that writing gave: after it no more is taken.
 #[derive(Drop)]
 pub struct Output<W = BufWriter<Stdout>> {
     to: W,
@@ -53,7 +53,7 @@ impl<W: Write> Output<W> {
         }
     }
 
-    // Writes out what the buffer holds, and says whether all was written.
+    // The first error; where there is none, what the buffer holds is written out.
     pub fn finish(mut self) -> io::Result<()>
     where
         W: Drop,
