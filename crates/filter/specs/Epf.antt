@@ -88,7 +88,7 @@ scale on =
 abbrev pub sigmas : EpfSigma → List Float
 sigmas r = r.quant_mul ∷ r.pass0_sigma_scale ∷ r.pass2_sigma_scale ∷ r.border_sad_mul ∷ []
 
--- the sigma values, if a Bool says so; in a Modular frame «quant_mul» isn't sent and stays 0.46
+-- the sigma values, if a Bool says so; in a Modular frame `quant_mul` isn't sent and stays 0.46
 abbrev pub sigma_of : Bool → Bool → Float → Float → Float → Float → EpfSigma
 sigma_of own modular q a b d =
     pick own

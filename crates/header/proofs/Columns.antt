@@ -38,7 +38,7 @@ use Rattle.header.proofs.Whole.{channels_any}
 
 -- ---- tables of rows
 
--- «all_default» isn't kept: its column is 0, so it has to have been read as 0
+-- `all_default` isn't kept: its column is 0, so it has to have been read as 0
 opening_kept : (f : Facts) → Kept (opening f) (λ r. r.all_default ≡ 0)
 unfolding opening Keeps
 opening_kept f =
@@ -288,7 +288,7 @@ module _ (f : Facts) (s : List ℕ) (c : Cursor) where
   unfolding header
   header_read = bind_then _ _ ahead.value ahead.next (record { is = refl }) (bind_then _ _ behind.value behind.next (record { is = refl }) at_end)
 
-  -- «all_default» was read as 0, and what else isn't kept as it would be written
+  -- `all_default` was read as 0, and what else isn't kept as it would be written
   pub record HeaderSent : Type 0 where
     pub all_default : (read (opening f) s c).value.all_default ≡ 0
     pub back : BackSent f ahead.value.front.opening ahead.value.front.placement s ahead.next

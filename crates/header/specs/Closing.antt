@@ -27,7 +27,7 @@ can_save o last = not (is_type o.frame_type LfFrame) && eqb last 0
 abbrev pub can_refer_to : Opening → ℕ → ℕ → ℕ → Bool
 can_refer_to o last duration reference = can_save o last && (eqb duration 0 || not (eqb reference 0))
 
--- «save_before_ct» is read for a reference-only frame, and for one that resets the canvas and can be referenced.
+-- `save_before_ct` is read for a reference-only frame, and for one that resets the canvas and can be referenced.
 abbrev pub asks_before_ct : Opening → Bool → ℕ → ℕ → ℕ → Bool
 asks_before_ct o resets last duration reference = is_type o.frame_type ReferenceOnly || (resets && can_refer_to o last duration reference)
 

@@ -16,7 +16,7 @@ upsamplings = one_of (val 1) (val 2) (val 4) (val 8)
 abbrev pub normal_frame : Opening → Bool
 normal_frame o = is_type o.frame_type RegularFrame || is_type o.frame_type SkipProgressive
 
--- «all_default» isn't kept: a later writer writes it as 0
+-- `all_default` isn't kept: a later writer writes it as 0
 unfoldable pub opening : Facts → Table Opening Opening
 opening f =
     row true bool 1 (λ r. 0) λ all.

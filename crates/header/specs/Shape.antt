@@ -41,7 +41,7 @@ passes on =
     bind (array (u32 last_passes) ds 4 0 (λ r i. get_or r.last_pass i 0)) λ last.
     ends (record { num_passes = n; num_ds = ds; shift = shift; downsample = downsample; last_pass = last })
 
--- «group_size_shift» is read for Modular, the two scales for XYB and VarDct; unread, «x_qm_scale» is 3 there and 2 otherwise
+-- `group_size_shift` is read for Modular, the two scales for XYB and VarDct; unread, `x_qm_scale` is 3 there and 2 otherwise
 unfoldable pub scales : Facts → Opening → Table Scales Scales
 scales f o =
     let xyb : Bool = f.xyb && is_encoding o.encoding VarDct in

@@ -9,7 +9,7 @@ use Rattle.order.specs.declared.SectionAnswer.{SectionAnswer}
 use Rattle.layout.specs.declared.Layout.{Layout}
 use Rattle.layout.specs.declared.LayoutAnswer.{LayoutAnswer}
 
--- what a look-up needs of a frame and its grid; a group's side is 2 ^ (7 + «group_size_shift»)
+-- what a look-up needs of a frame and its grid; a group's side is 2 ^ (7 + `group_size_shift`)
 abbrev pub laid_out : Frame → Grid → Layout
 laid_out f g = record {
   width = g.width;

@@ -1,4 +1,4 @@
-// What the programs that run stored vectors share: numbers out of a record, tables to lend, tables in one number, input and lines.
+// What the programs that run stored vectors share: numbers out of a record, tables to lend, tables in one number, and lines.
 #![tactic(auto)]
 
 mod lines;
@@ -6,7 +6,7 @@ mod sums;
 mod tables;
 mod words;
 
-pub use lines::{Output, buffered, cells, end, read_full, refusal, show};
+pub use lines::{Output, buffered, cells, end, refusal, show};
 pub use sums::{pattern, sum_bytes, sum_floats, sum_longs, sum_words};
 pub use tables::{bytes, longs, put_words, reversed, room_bytes, room_longs, room_words, table};
 pub use words::{Numbers, four, frame, long, size, word};

@@ -1,18 +1,16 @@
-// Numbers on a program's output, and a program's input. The clauses say what a writer gains whose bytes are known. Of standard output no clause
+// Numbers on a program's output. The clauses say what a writer gains whose bytes are known. Of standard output no clause
 // can say it; what a program writes is compared with its file `stdout`.
-ghost use Rattle.std.specs.Prelude.{◌≡◌, ◌<◌, [], ◌∷◌, ◌++◌, length, take, true, Err, IfOk, IfErr, IsOk, OnOk};
+ghost use Rattle.std.specs.Prelude.{◌≡◌, [], ◌∷◌, ◌++◌, true, Err, IfOk, IfErr, IsOk, OnOk};
 ghost use Rattle.std.specs.Fmt.{decimal};
 ghost use Rattle.std.specs.Io.Buffered.{writer_buffer, writer_inner};
-ghost use Rattle.std.specs.Io.KnownBytes.{Consumes, IsAtEnd};
 ghost use Rattle.std.specs.IoError.{error_kind};
-ghost use Rattle.replay.specs.Counts.{IsPrefixLen};
 ghost use Rattle.replay.specs.Outputs.{shown, shown_by, Gains};
 
 use crate::sums::wide;
 use bits::Refusal;
 use std::alloc::Global;
 use std::io;
-use std::io::{BufWriter, ErrorKind, Read, Stdout, Write};
+use std::io::{BufWriter, ErrorKind, Stdout, Write};
 
 // Where numbers go, and the first error that writing gave: after it no more is taken.
 #[derive(Drop)]
@@ -97,21 +95,4 @@ pub fn end<W: Write>(out: &mut Output<W>)
     ensures { Gains W.contents out.old (10 ∷ []) out.new }
 {
     out.text(b"\n");
-}
-
-// Reads until the buffer is full or the input ends, and answers how many bytes came. They stand at the front.
-pub fn read_full<R: Read>(input: &mut R, buf: &mut [u8]) -> io::Result<usize>
-    ensures in_bounds { IfOk result (λ n. IsPrefixLen n buf.new) }
-    ensures bytes { IfOk result (λ n. Consumes (R.remaining input.old) (R.remaining input.new) (take n buf.new)) }
-    ensures end { IfOk result (λ n. n < length buf.new → IsAtEnd (R.remaining input.new)) }
-{
-    let mut done: usize = 0;
-    while done < buf.len() {
-        let n = input.read(&mut buf[done..])?;
-        if n == 0 {
-            break;
-        }
-        done += n;
-    }
-    Ok(done)
 }

@@ -11,7 +11,7 @@ fn main(rt: HostRuntime) -> io::Result<()> {
     let mut out = replay::buffered(rt.alloc(), rt.stdout())?;
     let mut r = [0u8; 128];
     for _ in 0..100000u32 {
-        if replay::read_full(&mut input, &mut r)? != 128 {
+        if input::read_full(&mut input, &mut r)? != 128 {
             break;
         }
         record(&mut out, &r);

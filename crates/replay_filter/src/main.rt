@@ -13,7 +13,7 @@ fn main(rt: HostRuntime) -> io::Result<()> {
     let mut out = replay::buffered(rt.alloc(), rt.stdout())?;
     let mut r = [0u8; 96];
     for _ in 0..100000u32 {
-        if replay::read_full(&mut input, &mut r)? != 96 {
+        if input::read_full(&mut input, &mut r)? != 96 {
             break;
         }
         record(&mut out, &r);

@@ -27,7 +27,7 @@ fn main(rt: HostRuntime) -> io::Result<()> {
     let mut out = replay::buffered(rt.alloc(), rt.stdout())?;
     let mut r = [0u8; 64];
     for _ in 0..100000u32 {
-        if replay::read_full(&mut input, &mut r)? != 64 {
+        if input::read_full(&mut input, &mut r)? != 64 {
             break;
         }
         record(&mut input, &mut out, &r)?;
@@ -50,8 +50,8 @@ fn one(
     s: &mut [u8],
     numbers: &mut [u8],
 ) -> io::Result<()> {
-    replay::read_full(input, s)?;
-    replay::read_full(input, numbers)?;
+    input::read_full(input, s)?;
+    input::read_full(input, numbers)?;
     let h = head(out, s, facts(r));
     let m = replay::word(r, 0);
     tables(out, s, h.frame, h.end, numbers, 0);

@@ -18,7 +18,7 @@ fn main(rt: HostRuntime) -> io::Result<()> {
     let mut out = replay::buffered(rt.alloc(), rt.stdout())?;
     let mut r = [0u8; 64];
     for _ in 0..100000u32 {
-        if replay::read_full(&mut input, &mut r)? != 64 {
+        if input::read_full(&mut input, &mut r)? != 64 {
             break;
         }
         record(&mut input, &mut out, &r)?;
@@ -37,7 +37,7 @@ fn record(input: &mut Stdin, out: &mut Output, r: &[u8]) -> io::Result<()> {
 }
 
 fn runs(input: &mut Stdin, out: &mut Output, r: &[u8], s: &mut [u8]) -> io::Result<()> {
-    replay::read_full(input, s)?;
+    input::read_full(input, s)?;
     if replay::word(r, 0) == 1 {
         cuts(out, r, s);
     }

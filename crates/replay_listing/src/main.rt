@@ -13,7 +13,7 @@ fn main(rt: HostRuntime) -> io::Result<()> {
     let mut lines = replay::buffered(rt.alloc(), rt.stdout())?;
     let mut r = [0u8; 12];
     for _ in 0..100000u32 {
-        if replay::read_full(&mut input, &mut r)? != 12 {
+        if input::read_full(&mut input, &mut r)? != 12 {
             break;
         }
         record(&mut input, &mut lines, &r)?;
@@ -36,7 +36,7 @@ fn run(
     out: &mut [u8],
 ) -> io::Result<()> {
     let given = replay::room_bytes(input, replay::word(r, 4));
-    replay::read_full(from, &mut input[..given])?;
+    input::read_full(from, &mut input[..given])?;
     let n = replay::room_bytes(input, replay::word(r, 0));
     work(lines, &input[..n], out);
     Ok(())

@@ -1,7 +1,7 @@
 -- The bytes that have come stand at the front of the buffer, and each turn adds some.
 use Rattle.std.proofs.Common.{length, take, ◌-◌, ◌≤◌}
 use Rattle.std.specs.Io.KnownBytes.{Consumes}
-use Rattle.list.proofs.read_full.Given as goal
+use Rattle.input.proofs.read_full.Given as goal
 
 abbrev pub invariant-loop-done : goal.invariant-loop-done
 invariant-loop-done g l = record {
