@@ -1,13 +1,13 @@
 -- Laws of the field types: what each way out of a reading function answers, over plain variables.
-use Rattle.std.proofs.Common.{◌≡◌, ℕ, ◌+◌, ◌/◌, ◌%◌, ◌^◌, ◌<◌, ◌≤◌, Bool, true, false, not, ◌&&◌, eqb, leb, List, sym, refl, ap, ◌∙◌, true≢false, arith, eq-eqb, ne_eqb, le-leb}
+use Rattle.std.proofs.Common.{◌≡◌, Option, Some, None, ℕ, ◌+◌, ◌/◌, ◌%◌, ◌^◌, ◌<◌, ◌≤◌, Bool, true, false, not, ◌&&◌, eqb, leb, List, sym, refl, ap, ◌∙◌, true≢false, arith, eq-eqb, ne_eqb, le-leb}
 use native.Mathlib.Decide.{dec_le}
 use mathlib.Core.Logic.{by_cases}
 use mathlib.Core.Bool.{and-false}
 use lib.Bits.{bit_and, and_mask}
 use borrow.Author.Tests.{not-true, not-false, eqb-false, lt-leb}
+use Rattle.bits.specs.declared.Read.{Read}
 use Rattle.bits.specs.declared.pieces.Piece.{Piece}
 use Rattle.bits.specs.declared.Cursor.{Cursor}
-use Rattle.bits.specs.declared.Field.{Field}
 use Rattle.bits.specs.declared.Choice.{Choice}
 use Rattle.bits.specs.declared.Choices.{Choices}
 use Rattle.bits.specs.Bits.{bits_at, bit_count, there}
@@ -20,19 +20,19 @@ use Rattle.bits.proofs.Windows.{low_of, part_of}
 use Rattle.bits.proofs.Steps.{run_take, run_cut, run_refuses, field_run}
 
 -- a field of which something was read: value and cursor as they were made
-pub given : (s : List ℕ) (p q v w : ℕ) (b : Cursor) → w ≡ v → b ≡ start q → ◌≡◌ {A = Field} (record { value = w; next = b }) (run (gives v) s p q)
+pub given : (s : List ℕ) (p q v w : ℕ) (b : Cursor) → w ≡ v → b ≡ start q → ◌≡◌ {A = Read ℕ} (record { value = w; next = b }) (run (gives v) s p q)
 unfolding run
 given s p q v w b ew eb = rw (ew, eb)
 
 -- the first piece of a field, there or cut
 module _ (s : List ℕ) (on : Bool) (k : Codec) (d : ℕ) (c : Cursor) (i : Bool) (e : i ≡ not (on && clear c)) (n : ℕ) (f : ℕ → Steps) (st : steps k c.at ≡ takes n f)
-    (busy : i ≡ false) (x : Piece) (ex : x ≡ piece s c.at n)
+    (busy : i ≡ false) (r : Option Piece) (er : r ≡ piece s c.at n)
   where
-    pub first_taken : not x.there ≡ false → field s on k d c ≡ run (f x.value) s c.at x.at
-    first_taken t = field_run s on k d c i e busy ∙ ap (λ (r : Steps). run r s c.at c.at) st ∙ run_take s c.at n c.at f x ex t
+    pub first_taken : (x : Piece) → r ≡ Some x → field s on k d c ≡ run (f x.value) s c.at x.at
+    first_taken x t = field_run s on k d c i e busy ∙ ap (λ (r : Steps). run r s c.at c.at) st ∙ run_take s c.at n r er c.at f x t
 
-    pub first_cut : not x.there ≡ true → cut_at s c.at (c.at + n) ≡ field s on k d c
-    first_cut t = sym (field_run s on k d c i e busy ∙ ap (λ (r : Steps). run r s c.at c.at) st ∙ run_cut s c.at n c.at f x ex t)
+    pub first_cut : r ≡ None → cut_at s c.at (c.at + n) ≡ field s on k d c
+    first_cut t = sym (field_run s on k d c i e busy ∙ ap (λ (r : Steps). run r s c.at c.at) st ∙ run_cut s c.at n r er c.at f t)
 
 -- a U32's selector and n bits after it are there: one test on the width and one on the end
 pub u32_narrow : (s : List ℕ) (p n : ℕ) → n ≤ 32 → leb (p + (n + 2)) (bit_count s) ≡ (there s p 2 && there s (p + 2) n)
@@ -62,7 +62,7 @@ module _ (s : List ℕ) (p : ℕ) (ds : Choices) where
     u32_cut t = cut_by (there s p 2) (there s (p + 2) ch.bits) refl refl (sym er ∙ not-true r t)
 
     pub u32_read : (v q : ℕ) (b : Cursor) → not r ≡ false → v ≡ (ch.base + bits_at s (p + 2) ch.bits) % 2 ^ 32 → q ≡ p + 2 + ch.bits → b ≡ start q
-        → ◌≡◌ {A = Field} (record { value = v; next = b }) (run (choice ds gives) s p p)
+        → ◌≡◌ {A = Read ℕ} (record { value = v; next = b }) (run (choice ds gives) s p p)
     unfolding run
     u32_read v q b t ev eq eb =
         let both : (there s p 2 && there s (p + 2) ch.bits) ≡ true = sym er ∙ not-false r t in
@@ -70,7 +70,7 @@ module _ (s : List ℕ) (p : ℕ) (ds : Choices) where
 
 -- a U32 out of bits that are known, at least as many as it takes
 pub u32_seen : (s : List ℕ) (q m w : ℕ) (ds : Choices) (ch : Choice) (v : ℕ) → w ≡ bits_at s q m → q + m ≤ bit_count s → ch ≡ chosen ds (w % 2 ^ 2) → ch.bits ≤ 32 → 2 + ch.bits ≤ m
-    → v ≡ (ch.base + w / 2 ^ 2 % 2 ^ ch.bits) % 2 ^ 32 → ◌≡◌ {A = Field} (record { value = v; next = start (q + 2 + ch.bits) }) (field s true (u32 ds) 0 (start q))
+    → v ≡ (ch.base + w / 2 ^ 2 % 2 ^ ch.bits) % 2 ^ 32 → ◌≡◌ {A = Read ℕ} (record { value = v; next = start (q + 2 + ch.bits) }) (field s true (u32 ds) 0 (start q))
 unfolding field
 u32_seen s q m w ds ch v ew room ech narrow enough ev =
     let selector : w % 2 ^ 2 ≡ bits_at s q 2 = rw ew (low_of s q m 2 (omega (arith, enough))) in
@@ -105,13 +105,13 @@ choice_clear_by ds s p q true false h1 h2 h = absurd (eqb-false 4 0 refl (rw (h1
 choice_clear_by ds s p q false true h1 h2 h = absurd (eqb-false 4 0 refl (rw h1 at h))
 choice_clear_by ds s p q false false h1 h2 h = absurd (eqb-false 4 0 refl (rw h1 at h))
 
-choice_clear : (ds : Choices) (s : List ℕ) (p q : ℕ) (f : Field) → f ≡ run (choice ds gives) s p q → f.next.fault.number ≡ 0
+choice_clear : (ds : Choices) (s : List ℕ) (p q : ℕ) (f : Read ℕ) → f ≡ run (choice ds gives) s p q → f.next.fault.number ≡ 0
     → f ≡ run (gives f.value) s p f.next.at
 choice_clear ds s p q f e h =
     rw e (choice_clear_by ds s p q (there s q 2) (there s (q + 2) (chosen ds (bits_at s q 2)).bits) refl refl (rw e at h))
 
 -- an enum's case: what the U32 says, unless it names none
-module _ (s : List ℕ) (on : Bool) (ds : Choices) (n d : ℕ) (c : Cursor) (i : Bool) (e : i ≡ not (on && clear c)) (busy : i ≡ false) (f : Field) (ef : f ≡ field s true (u32 ds) 0 c)
+module _ (s : List ℕ) (on : Bool) (ds : Choices) (n d : ℕ) (c : Cursor) (i : Bool) (e : i ≡ not (on && clear c)) (busy : i ≡ false) (f : Read ℕ) (ef : f ≡ field s true (u32 ds) 0 c)
   where
     cleared : (b : Bool) (q : ℕ) → (on && clear c) ≡ b → i ≡ not b → clear c ≡ true
     cleared true q h hi = and_right on (clear c) h
@@ -151,12 +151,12 @@ module _ (s : List ℕ) (on : Bool) (n : ℕ) (c : Cursor) (i : Bool) (e : i ≡
   pub skip_cut : i ≡ false → (r : Cursor) → r ≡ record { at = c.at; fault = cut s c.at (c.at + n) } → bit_count s < c.at + n → r ≡ (field s on (skip n) 0 c).next
   skip_cut busy r er h =
       let is : field s on (skip n) 0 c ≡ cut_at s c.at (c.at + n) = skip_run busy ∙ rw (lt-leb (c.at + n) (bit_count s) h) in
-      er ∙ sym (ap (λ (f : Field). f.next) is)
+      er ∙ sym (ap (λ (f : Read ℕ). f.next) is)
 
   pub skip_goes : i ≡ false → (r : Cursor) → r ≡ start (c.at + n) → c.at + n ≤ bit_count s → r ≡ (field s on (skip n) 0 c).next
   skip_goes busy r er h =
       let is : field s on (skip n) 0 c ≡ record { value = 0; next = start (c.at + n) } = skip_run busy ∙ rw (le-leb (c.at + n) (bit_count s) h) in
-      er ∙ sym (ap (λ (f : Field). f.next) is)
+      er ∙ sym (ap (λ (f : Read ℕ). f.next) is)
 
 -- an f16 goes by its exponent
 module _ (s : List ℕ) (p q h : ℕ) where

@@ -2,13 +2,13 @@
 -- read. One induction each for tables one after another, inside each other and repeated; the crates above have the instances.
 use Rattle.std.proofs.Common.{◌≡◌, ℕ, zero, suc, ◌+◌, ◌-◌, ◌%◌, ◌<◌, Bool, true, false, ◌&&◌, eqb, leb, List, ◌∷◌, get_or, sym, refl, ap, ◌∙◌, add-zero, add-suc, suc-add, arith}
 use mathlib.Core.Bool.{false≢true}
+use Rattle.bits.specs.declared.Read.{Read}
 use Rattle.bits.specs.declared.Cursor.{Cursor}
-use Rattle.bits.specs.declared.Field.{Field}
 use Rattle.bits.specs.Refusals.{pick, clear}
 use Rattle.bits.specs.Bits.{bits_at, bit_count, there}
 use Rattle.bits.specs.Steps.{Steps, gives, refuses, cut_at, run}
 use Rattle.bits.specs.Codec.{u64, padding, skip, steps, field}
-use Rattle.bits.specs.Table.{Table, ends, row, fails, Out, failed, read, bind, within, times}
+use Rattle.bits.specs.Table.{Table, ends, row, fails, failed, read, bind, within, times}
 use Rattle.bits.specs.Extensions.{lengths, extensions}
 use Rattle.bits.proofs.Tables.{read_bind, read_within}
 use Rattle.bits.proofs.Rows.{times_then}
@@ -47,7 +47,7 @@ module _ {R A : Type 0} (f : ℕ → Table R A) (s : List ℕ) (r : R) (when : T
         → (read (times (suc n) i f) s c).value ≡ (read (f i) s c).value ∷ (read (times n (suc i) f) s (read (f i) s c).next).value
     unfolding times read
     first n i c =
-        ap (λ (o : Out (List A)). o.value)
+        ap (λ (o : Read (List A)). o.value)
         (read_bind (f i) (λ a. bind (times n (suc i) f) λ rest. ends (a ∷ rest)) s c
         ∙ read_bind (times n (suc i) f) (λ rest. ends ((read (f i) s c).value ∷ rest)) s (read (f i) s c).next)
 
@@ -112,9 +112,9 @@ unfolding field run
 padding_zero s on c =
     let n : ℕ = (8 - c.at % 8) % 8 in
     let x : ℕ = bits_at s c.at n in
-    picked (λ (r : Field). r.value ≡ 0) (on && clear c) (run (steps padding c.at) s c.at c.at) (record { value = 0; next = c })
+    picked (λ (r : Read ℕ). r.value ≡ 0) (on && clear c) (run (steps padding c.at) s c.at c.at) (record { value = 0; next = c })
     (λ e.
-    picked (λ (r : Field). r.value ≡ 0) (there s c.at n) (run (pick (eqb x 0) (gives 0) (refuses 12)) s c.at (c.at + n)) (cut_at s c.at (c.at + n))
+    picked (λ (r : Read ℕ). r.value ≡ 0) (there s c.at n) (run (pick (eqb x 0) (gives 0) (refuses 12)) s c.at (c.at + n)) (cut_at s c.at (c.at + n))
     (λ e. picked (λ (t : Steps). (run t s c.at (c.at + n)).value ≡ 0) (eqb x 0) (gives 0) (refuses 12) (λ e. refl) (λ e. refl))
     (λ e. refl))
     (λ e. refl)
@@ -122,9 +122,9 @@ padding_zero s on c =
 skip_zero : (s : List ℕ) (on : Bool) (n : ℕ) (c : Cursor) → (field s on (skip n) 0 c).value ≡ 0
 unfolding field run
 skip_zero s on n c =
-    picked (λ (r : Field). r.value ≡ 0) (on && clear c) (run (steps (skip n) c.at) s c.at c.at) (record { value = 0; next = c })
+    picked (λ (r : Read ℕ). r.value ≡ 0) (on && clear c) (run (steps (skip n) c.at) s c.at c.at) (record { value = 0; next = c })
     (λ e.
-    picked (λ (r : Field). r.value ≡ 0) (leb (c.at + n) (bit_count s)) (run (gives 0) s c.at (c.at + n)) (cut_at s c.at (c.at + n)) (λ e. refl) (λ e. refl))
+    picked (λ (r : Read ℕ). r.value ≡ 0) (leb (c.at + n) (bit_count s)) (run (gives 0) s c.at (c.at + n)) (cut_at s c.at (c.at + n)) (λ e. refl) (λ e. refl))
     (λ e. refl)
 
 -- ---- the extensions, of which nothing is kept: where their mask was read as 0

@@ -4,14 +4,14 @@ use Rattle.std.proofs.Common.{◌≡◌, ℕ, zero, suc, ◌+◌, ◌-◌, ◌*�
 use native.Mathlib.Nat.{mod-add-mod}
 use mathlib.Core.Bool.{false≢true}
 use borrow.Author.Tests.{eqb-false}
+use Rattle.bits.specs.declared.Read.{Read}
 use Rattle.bits.specs.declared.Cursor.{Cursor}
-use Rattle.bits.specs.declared.Field.{Field}
 use Rattle.bits.specs.Refusals.{pick, refusal, start, clear}
 use Rattle.bits.specs.Bits.{bit_at, bits_at, bit_count, there}
 use Rattle.bits.specs.Half.{exponent}
 use Rattle.bits.specs.Steps.{Steps, gives, refuses, takes, skips, cut, cut_at, run}
 use Rattle.bits.specs.Codec.{Codec, u, bool, u32, cases, u64, f16, padding, skip, steps, chosen, more, field}
-use Rattle.bits.specs.Table.{Table, ends, row, fails, Out, failed, read}
+use Rattle.bits.specs.Table.{Table, ends, row, fails, failed, read}
 use Rattle.bits.proofs.Bits.{bits_lt, there_parts}
 
 -- ---- fields
@@ -49,18 +49,18 @@ unfolding run
 run_within (gives v) s p q hp hq = hq
 run_within (refuses n) s p q hp hq = hp
 run_within (takes n f) s p q hp hq =
-    picked (λ (r : Field). r.next.at ≤ bit_count s) (there s q n) (run (f (bits_at s q n)) s p (q + n)) (cut_at s p (q + n))
+    picked (λ (r : Read ℕ). r.next.at ≤ bit_count s) (there s q n) (run (f (bits_at s q n)) s p (q + n)) (cut_at s p (q + n))
     (λ h. run_within (f (bits_at s q n)) s p (q + n) hp (there_parts s q n h).1)
     (λ h. hp)
 run_within (skips n t) s p q hp hq =
-    picked (λ (r : Field). r.next.at ≤ bit_count s) (leb (q + n) (bit_count s)) (run t s p (q + n)) (cut_at s p (q + n))
+    picked (λ (r : Read ℕ). r.next.at ≤ bit_count s) (leb (q + n) (bit_count s)) (run t s p (q + n)) (cut_at s p (q + n))
     (λ h. run_within t s p (q + n) hp (leb-true (q + n) (bit_count s) h))
     (λ h. hp)
 
 pub field_within : (s : List ℕ) (on : Bool) (k : Codec) (d : ℕ) (c : Cursor) → c.at ≤ bit_count s → (field s on k d c).next.at ≤ bit_count s
 unfolding field
 field_within s on k d c h =
-    picked (λ (r : Field). r.next.at ≤ bit_count s) (on && clear c) (run (steps k c.at) s c.at c.at) (record { value = d; next = c })
+    picked (λ (r : Read ℕ). r.next.at ≤ bit_count s) (on && clear c) (run (steps k c.at) s c.at c.at) (record { value = d; next = c })
     (λ e. run_within (steps k c.at) s c.at c.at h h)
     (λ e. h)
 
@@ -95,7 +95,7 @@ pub fault_stays : {R A : Type 0} (t : Table R A) (s : List ℕ) (c : Cursor) →
 unfolding read
 fault_stays (ends a) s c h = refl
 fault_stays (row on k d v rest) s c h =
-    let same : (field s on k d c).next ≡ c = ap (λ (r : Field). r.next) (field_held s on k d c h) in
+    let same : (field s on k d c).next ≡ c = ap (λ (r : Read ℕ). r.next) (field_held s on k d c h) in
     fault_stays (rest (field s on k d c).value) s (field s on k d c).next (rw same h) ∙ same
 fault_stays (fails bad number back rest) s c h =
     let same : failed bad number back c ≡ c = failed_held bad number back c h in
@@ -141,17 +141,17 @@ fair padding p = λ x. fair_pick (eqb x 0) (gives 0) (refuses 12) tt (eqb-false 
 fair (skip n) p = tt
 
 -- a field that is not refused does not go back
-forward : (t : Steps) → Fair t → (s : List ℕ) (p q : ℕ) (r : Field) → run t s p q ≡ r → clear r.next ≡ true → q ≤ r.next.at
+forward : (t : Steps) → Fair t → (s : List ℕ) (p q : ℕ) (r : Read ℕ) → run t s p q ≡ r → clear r.next ≡ true → q ≤ r.next.at
 unfolding run cut
 forward (gives v) f s p q r e h = rw (← e) (le_refl q)
 forward (refuses n) f s p q r e h = absurd (f (eqb-true n 0 (rw (← e) at h)))
 forward (takes n g) f s p q r e h =
-    picked (λ (x : Field). x ≡ r → q ≤ r.next.at) (there s q n) (run (g (bits_at s q n)) s p (q + n)) (cut_at s p (q + n))
+    picked (λ (x : Read ℕ). x ≡ r → q ≤ r.next.at) (there s q n) (run (g (bits_at s q n)) s p (q + n)) (cut_at s p (q + n))
     (λ t y. let l : q + n ≤ r.next.at = forward (g (bits_at s q n)) (f (bits_at s q n)) s p (q + n) r y h in omega arith)
     (λ t y. absurd (false≢true (rw (← y) at h)))
     e
 forward (skips n t) f s p q r e h =
-    picked (λ (x : Field). x ≡ r → q ≤ r.next.at) (leb (q + n) (bit_count s)) (run t s p (q + n)) (cut_at s p (q + n))
+    picked (λ (x : Read ℕ). x ≡ r → q ≤ r.next.at) (leb (q + n) (bit_count s)) (run t s p (q + n)) (cut_at s p (q + n))
     (λ i y. let l : q + n ≤ r.next.at = forward t f s p (q + n) r y h in omega arith)
     (λ i y. absurd (false≢true (rw (← y) at h)))
     e
@@ -164,7 +164,7 @@ shifted s s' p p' x x' e l m h i k =
     let b : x' + i ≡ p' + (x - p + i) = omega arith in
     rw (a, b) (h (x - p + i) (omega arith))
 
-module _ (s s' : List ℕ) (p p' : ℕ) (r : Field) (ok : clear r.next ≡ true) where
+module _ (s s' : List ℕ) (p p' : ℕ) (r : Read ℕ) (ok : clear r.next ≡ true) where
   run_same : (t : Steps) → Fair t → (q q' : ℕ) → run t s p q ≡ r
       → ((i : ℕ) → q + i < r.next.at → bit_at s (q + i) ≡ bit_at s' (q' + i)) → q' + (r.next.at - q) ≤ bit_count s'
       → run t s' p' q' ≡ record { value = r.value; next = start (q' + (r.next.at - q)) }
@@ -175,7 +175,7 @@ module _ (s s' : List ℕ) (p p' : ℕ) (r : Field) (ok : clear r.next ≡ true)
       rw (← here, ← val)
   run_same (refuses n) f q q' e h l = absurd (f (eqb-true n 0 (rw (← e) at ok)))
   run_same (takes n g) f q q' e h l =
-      picked (λ (x : Field). x ≡ r → run (takes n g) s' p' q' ≡ record { value = r.value; next = start (q' + (r.next.at - q)) }) (there s q n) (run (g (bits_at s q n)) s p (q + n)) (cut_at s p (q + n))
+      picked (λ (x : Read ℕ). x ≡ r → run (takes n g) s' p' q' ≡ record { value = r.value; next = start (q' + (r.next.at - q)) }) (there s q n) (run (g (bits_at s q n)) s p (q + n)) (cut_at s p (q + n))
       (λ t y.
       let past : q + n ≤ r.next.at = forward (g (bits_at s q n)) (f (bits_at s q n)) s p (q + n) r y ok in
       let same : bits_at s q n ≡ bits_at s' q' n = bits_same s s' q q' n (λ i k. h i (omega arith)) in
@@ -186,7 +186,7 @@ module _ (s s' : List ℕ) (p p' : ℕ) (r : Field) (ok : clear r.next ≡ true)
       (λ t y. absurd (false≢true (rw (← y) at ok)))
       e
   run_same (skips n t) f q q' e h l =
-      picked (λ (x : Field). x ≡ r → run (skips n t) s' p' q' ≡ record { value = r.value; next = start (q' + (r.next.at - q)) }) (leb (q + n) (bit_count s)) (run t s p (q + n)) (cut_at s p (q + n))
+      picked (λ (x : Read ℕ). x ≡ r → run (skips n t) s' p' q' ≡ record { value = r.value; next = start (q' + (r.next.at - q)) }) (leb (q + n) (bit_count s)) (run t s p (q + n)) (cut_at s p (q + n))
       (λ i y.
       let past : q + n ≤ r.next.at = forward t f s p (q + n) r y ok in
       let room : leb (q' + n) (bit_count s') ≡ true = le-leb (q' + n) (bit_count s') (omega arith) in
@@ -234,7 +234,7 @@ and_both a b h k = rw (h, k)
 field_forward : (s : List ℕ) (on : Bool) (k : Codec) (d : ℕ) (c : Cursor) → clear (field s on k d c).next ≡ true → c.at ≤ (field s on k d c).next.at
 unfolding field
 field_forward s on k d c =
-    picked (λ (x : Field). clear x.next ≡ true → c.at ≤ x.next.at) (on && clear c) (run (steps k c.at) s c.at c.at) (record { value = d; next = c })
+    picked (λ (x : Read ℕ). clear x.next ≡ true → c.at ≤ x.next.at) (on && clear c) (run (steps k c.at) s c.at c.at) (record { value = d; next = c })
     (λ e h. forward (steps k c.at) (fair k c.at) s c.at c.at (run (steps k c.at) s c.at c.at) refl h)
     (λ e h. le_refl c.at)
 
@@ -249,7 +249,7 @@ field_same s s' true k d c c' a h h' =
     (λ ok bits room.
     let r = run (steps k c.at) s c.at c.at in
     let is = run_same s s' c.at c'.at r ok (steps k c.at) (fair k c.at) c.at c'.at refl bits room in
-    (ap (λ (x : Field). x.value) is, (ap (λ (x : Field). clear x.next) is, ap (λ (x : Field). x.next.at) is)))
+    (ap (λ (x : Read ℕ). x.value) is, (ap (λ (x : Read ℕ). clear x.next) is, ap (λ (x : Read ℕ). x.next.at) is)))
 field_same s s' false k d c c' a h h' = λ ok bits room. (refl, (h', omega arith))
 
 read_clear : {R A : Type 0} (t : Table R A) (s : List ℕ) (c : Cursor) (b : Bool) → clear c ≡ b → clear (read t s c).next ≡ true → b ≡ true
@@ -303,7 +303,7 @@ same_bits {A = A} (row on k d v rest) s s' c c' al h h' ok bits room =
     let al' : (f.next.at % 8 ≡ f'.next.at % 8) ⊎ Plain (rest f.value) = ⊎_elim (λ x. inl (aligned c.at c'.at f.next.at f'.next.at low at' x)) (λ x. inr (x.1 f.value)) al in
     let two = same_bits (rest f.value) s s' f.next f'.next al' fok one.1.0 ok (shifted s s' c.at c'.at f.next.at f'.next.at e low at' bits) (omega arith) in
     let is : read (rest f'.value) s' f'.next ≡ read (rest f.value) s' f'.next = rw one.0 in
-    (ap (λ (o : Out A). o.value) is ∙ two.0, (ap (λ (o : Out A). clear o.next) is ∙ two.1.0, ap (λ (o : Out A). o.next.at) is ∙ two.1.1 ∙ omega arith))
+    (ap (λ (o : Read A). o.value) is ∙ two.0, (ap (λ (o : Read A). clear o.next) is ∙ two.1.0, ap (λ (o : Read A). o.next.at) is ∙ two.1.1 ∙ omega arith))
 same_bits {A = A} (fails bad number back rest) s s' c c' al h h' ok bits room =
     let g = failed bad number back c in
     let g' = failed bad number back c' in

@@ -1,18 +1,18 @@
 -- Laws of reading a table step by step: a row, a table inside another, and what follows.
 use Rattle.std.proofs.Common.{◌≡◌, ℕ, zero, suc, Bool, List, [], ◌∷◌, refl, ◌∙◌}
+use Rattle.bits.specs.declared.Read.{Read}
 use Rattle.bits.specs.declared.Cursor.{Cursor}
-use Rattle.bits.specs.declared.Field.{Field}
 use Rattle.bits.specs.Codec.{Codec, field}
-use Rattle.bits.specs.Table.{Table, Out, ends, row, read, bind, within, times}
+use Rattle.bits.specs.Table.{Table, ends, row, read, bind, within, times}
 use Rattle.bits.proofs.Tables.{read_bind, read_within}
 
 -- the table t, read at c, comes to o
-pub record Reads {R A : Type 0} (t : Table R A) (s : List ℕ) (c : Cursor) (o : Out A) : Type 0 where
+pub record Reads {R A : Type 0} (t : Table R A) (s : List ℕ) (c : Cursor) (o : Read A) : Type 0 where
   pub is : read t s c ≡ o
 
-module _ {R A : Type 0} {s : List ℕ} {c : Cursor} {o : Out A} where
+module _ {R A : Type 0} {s : List ℕ} {c : Cursor} {o : Read A} where
   -- a row, and then the rest by the field that was read
-  pub row_then : {on : Bool} {k : Codec} {d : ℕ} {v : R → ℕ} {rest : ℕ → Table R A} (f : Field) → f ≡ field s on k d c
+  pub row_then : {on : Bool} {k : Codec} {d : ℕ} {v : R → ℕ} {rest : ℕ → Table R A} (f : Read ℕ) → f ≡ field s on k d c
       → Reads (rest f.value) s f.next o → Reads (row on k d v rest) s c o
   unfolding read
   row_then f e r = record { is = rw (← e) r.is }

@@ -1,9 +1,9 @@
 -- Laws of a field's steps: a piece that is there and one that is cut, and how `run` goes on after each.
-use Rattle.std.proofs.Common.{◌≡◌, ℕ, ◌+◌, ◌^◌, ◌<◌, Bool, true, false, not, ◌&&◌, List, sym, refl, ap, ◌∙◌, true≢false, pow_pos}
+use Rattle.std.proofs.Common.{◌≡◌, ℕ, ◌+◌, ◌^◌, ◌<◌, Bool, true, false, not, ◌&&◌, List, Option, Some, None, sym, refl, ap, ◌∙◌, true≢false}
 use mathlib.Core.Bool.{false≢true}
+use Rattle.bits.specs.declared.Read.{Read}
 use Rattle.bits.specs.declared.pieces.Piece.{Piece}
 use Rattle.bits.specs.declared.Cursor.{Cursor}
-use Rattle.bits.specs.declared.Field.{Field}
 use Rattle.bits.specs.Bits.{bits_at, there}
 use Rattle.bits.specs.Refusals.{start, clear}
 use Rattle.bits.specs.Steps.{Steps, gives, refuses, takes, refused_at, cut_at, run, piece}
@@ -11,43 +11,42 @@ use Rattle.bits.specs.Codec.{Codec, steps, field}
 use Rattle.bits.proofs.Bits.{bits_lt}
 
 module _ (s : List ℕ) (q n : ℕ) where
-  pub piece_there : (v : ℕ) → there s q n ≡ true → v ≡ bits_at s q n
-      → ◌≡◌ {A = Piece} (record { there = true; value = v; at = q + n }) (piece s q n)
+  pub piece_there : (v : ℕ) → there s q n ≡ true → v ≡ bits_at s q n → ◌≡◌ {A = Option Piece} (Some (record { value = v; at = q + n })) (piece s q n)
   unfolding piece
   piece_there v t e = rw (t, e)
 
-  pub piece_cut : there s q n ≡ false → ◌≡◌ {A = Piece} (record { there = false; value = 0; at = q }) (piece s q n)
+  pub piece_cut : there s q n ≡ false → ◌≡◌ {A = Option Piece} None (piece s q n)
   unfolding piece
   piece_cut t = rw t
 
-  -- so many bits are below 2 ^ n, whether they are there or not
-  below : (b : Bool) → there s q n ≡ b → (piece s q n).value < 2 ^ n
-  unfolding piece
-  below true h = rw h (bits_lt s q n)
-  below false h = rw h (pow_pos n)
+  module _ (r : Option Piece) (er : r ≡ piece s q n) where
+    taken : (b : Bool) → there s q n ≡ b → (x : Piece) → r ≡ Some x → (b ≡ true) × ◌≡◌ {A = Piece} (record { value = bits_at s q n; at = q + n }) x
+    unfolding piece
+    taken true h x e = let same = rw h at er in (refl, cc)
+    taken false h x e = let same = rw h at er in absurd cc
 
-  pub piece_lt : (x : Piece) → x ≡ piece s q n → x.value < 2 ^ n
-  piece_lt x e = rw e (below (there s q n) refl)
+    cut_off : (b : Bool) → there s q n ≡ b → r ≡ None → b ≡ false
+    unfolding piece
+    cut_off true h e = let same = rw h at er in absurd cc
+    cut_off false h e = refl
 
-  module _ (p : ℕ) (f : ℕ → Steps) where
-    took : (b : Bool) → there s q n ≡ b → not (piece s q n).there ≡ false
-        → run (takes n f) s p q ≡ run (f (piece s q n).value) s p (piece s q n).at
-    unfolding run piece
-    took true h t = rw h
-    took false h t = absurd (true≢false (rw h at t))
+    -- a piece that is there has its bits, below 2 ^ n, and ends behind them
+    pub piece_is : (x : Piece) → r ≡ Some x → ◌≡◌ {A = Piece} (record { value = bits_at s q n; at = q + n }) x
+    piece_is x e = (taken (there s q n) refl x e).1
 
-    missed : (b : Bool) → there s q n ≡ b → not (piece s q n).there ≡ true → run (takes n f) s p q ≡ cut_at s p (q + n)
-    unfolding run piece
-    missed true h t = absurd (false≢true (rw h at t))
-    missed false h t = rw h
+    pub piece_lt : (x : Piece) → r ≡ Some x → x.value < 2 ^ n
+    piece_lt x e = rw (← piece_is x e) (bits_lt s q n)
 
-    -- a piece that is there: on by its value, after it
-    pub run_take : (x : Piece) → x ≡ piece s q n → not x.there ≡ false → run (takes n f) s p q ≡ run (f x.value) s p x.at
-    run_take x e t = took (there s q n) refl (rw e at t) ∙ rw (← e)
+    module _ (p : ℕ) (f : ℕ → Steps) where
+      -- a piece that is there: on by its value, after it
+      pub run_take : (x : Piece) → r ≡ Some x → run (takes n f) s p q ≡ run (f x.value) s p x.at
+      unfolding run
+      run_take x e = rw ((taken (there s q n) refl x e).0, ← piece_is x e) refl
 
-    -- a piece that is cut: 4 where the field began
-    pub run_cut : (x : Piece) → x ≡ piece s q n → not x.there ≡ true → run (takes n f) s p q ≡ cut_at s p (q + n)
-    run_cut x e t = missed (there s q n) refl (rw e at t)
+      -- a piece that is cut: 4 where the field began
+      pub run_cut : r ≡ None → run (takes n f) s p q ≡ cut_at s p (q + n)
+      unfolding run
+      run_cut e = rw (cut_off (there s q n) refl e)
 
 pub run_gives : (s : List ℕ) (p q v : ℕ) → run (gives v) s p q ≡ record { value = v; next = start q }
 unfolding run
@@ -84,5 +83,5 @@ module _ (s : List ℕ) (on : Bool) (k : Codec) (d : ℕ) (c : Cursor) (i : Bool
   field_place t = sym (field_run t)
 
   -- passed by: the default, beside the cursor as it was
-  pub field_passed : i ≡ true → (r : Cursor) → r ≡ c → ◌≡◌ {A = Field} (record { value = d; next = r }) (field s on k d c)
+  pub field_passed : i ≡ true → (r : Cursor) → r ≡ c → ◌≡◌ {A = Read ℕ} (record { value = d; next = r }) (field s on k d c)
   field_passed t r er = rw er (sym (field_idle t))

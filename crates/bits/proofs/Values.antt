@@ -1,8 +1,8 @@
 -- What values a field can have: a property of every number that its steps give, of 0 and of the default, is one of what is read.
 use Rattle.std.proofs.Common.{ℕ, ◌+◌, ◌%◌, ◌^◌, ◌<◌, Bool, ◌&&◌, eqb, leb, List, arith, leb-false}
+use Rattle.bits.specs.declared.Read.{Read}
 use Rattle.bits.specs.declared.Choices.{Choices}
 use Rattle.bits.specs.declared.Cursor.{Cursor}
-use Rattle.bits.specs.declared.Field.{Field}
 use Rattle.bits.specs.Refusals.{clear}
 use Rattle.bits.specs.Bits.{bits_at, bit_count, there}
 use Rattle.bits.specs.Half.{exponent}
@@ -24,15 +24,15 @@ module _ (P : ℕ → Type 0) (zero : P 0) (s : List ℕ) where
   run_gives (gives v) p q h = h
   run_gives (refuses number) p q h = zero
   run_gives (takes n rest) p q h =
-      picked (λ (r : Field). P r.value) (there s q n) (run (rest (bits_at s q n)) s p (q + n)) (cut_at s p (q + n))
+      picked (λ (r : Read ℕ). P r.value) (there s q n) (run (rest (bits_at s q n)) s p (q + n)) (cut_at s p (q + n))
       (λ e. run_gives (rest (bits_at s q n)) p (q + n) (h (bits_at s q n) (bits_lt s q n))) (λ e. zero)
   run_gives (skips n rest) p q h =
-      picked (λ (r : Field). P r.value) (leb (q + n) (bit_count s)) (run rest s p (q + n)) (cut_at s p (q + n)) (λ e. run_gives rest p (q + n) h) (λ e. zero)
+      picked (λ (r : Read ℕ). P r.value) (leb (q + n) (bit_count s)) (run rest s p (q + n)) (cut_at s p (q + n)) (λ e. run_gives rest p (q + n) h) (λ e. zero)
 
   pub field_gives : (on : Bool) (k : Codec) (d : ℕ) (c : Cursor) → P d → Gives P (steps k c.at) → P (field s on k d c).value
   unfolding field
   field_gives on k d c own h =
-      picked (λ (r : Field). P r.value) (on && clear c) (run (steps k c.at) s c.at c.at) (record { value = d; next = c })
+      picked (λ (r : Read ℕ). P r.value) (on && clear c) (run (steps k c.at) s c.at c.at) (record { value = d; next = c })
       (λ e. run_gives (steps k c.at) c.at c.at h) (λ e. own)
 
 -- u(n) is below 2 ^ n

@@ -2,9 +2,9 @@
 use Rattle.std.proofs.Common.{◌≡◌, ℕ, ◌+◌, ◌-◌, ◌/◌, ◌%◌, ◌^◌, ◌≤◌, min, Bool, true, false, not, List, refl, ap, ◌∙◌, add-zero, mod-eq_of_lt, div-one, arith, le-leb}
 use native.Mathlib.Nat.{mod-one}
 use borrow.Author.Tests.{not-true, not-false}
+use Rattle.bits.specs.declared.Read.{Read}
 use Rattle.bits.specs.declared.Choice.{Choice}
 use Rattle.bits.specs.declared.Choices.{Choices}
-use Rattle.bits.specs.declared.Field.{Field}
 use Rattle.bits.specs.declared.window.Ahead.{Ahead}
 use Rattle.bits.specs.declared.view.View.{View}
 use Rattle.bits.specs.declared.view.Seen.{Seen}
@@ -56,7 +56,7 @@ held_ahead s p m a e t h =
     }
 
 -- a number that was seen, as a field
-abbrev pub field_of : Seen → Field
+abbrev pub field_of : Seen → Read ℕ
 field_of r = record { value = r.value; next = start r.rest.at }
 
 module _ (s : List ℕ) where

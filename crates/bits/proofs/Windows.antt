@@ -1,6 +1,6 @@
 -- Laws of bits from whole bytes: many bits are those below and those above, a byte is its eight bits, a part of many bits is a remainder
 -- of a quotient, and behind the end there are zeros.
-use Rattle.std.proofs.Common.{◌≡◌, ℕ, zero, suc, ◌+◌, ◌-◌, ◌*◌, ◌/◌, ◌%◌, ◌^◌, ◌<◌, ◌≤◌, min, Bool, true, false, leb, List, length, get_or, sym, refl, ap, ◌∙◌, add-zero, add_assoc, add-suc, mod-eq_of_lt, mul_assoc, mul_comm, add-mul, add_comm, one-mul, zero-add, zero-mul, div-one, arith, lit<, pow-add, shl_exact, le-leb, leb-true}
+use Rattle.std.proofs.Common.{◌≡◌, ℕ, zero, suc, ◌+◌, ◌-◌, ◌*◌, ◌/◌, ◌%◌, ◌^◌, ◌<◌, ◌≤◌, min, Bool, true, false, leb, List, length, get_or, sym, refl, ap, ◌∙◌, add-zero, add_assoc, add-suc, mod-eq_of_lt, mul_assoc, mul_comm, add-mul, add_comm, one-mul, zero-add, zero-mul, div-one, arith, lit<, pow-add, Fits, w8, slice_index_or, shl_exact, le-leb, leb-true}
 use native.Mathlib.Nat.{zero-div, zero-mod, mod-one}
 use mathlib.Core.Logic.{by_cases}
 use native.Mathlib.Decide.{dec_le}
@@ -122,3 +122,7 @@ one_shifted k h = shl_exact {a = 1} 1 k 64 (lit< tt) (omega arith) ∙ one-mul (
 
 pub masked : (v k : ℕ) → k ≤ 32 → bit_and v (1 * 2 ^ k % 18446744073709551616 - 1) ≡ v % 2 ^ k
 masked v k h = rw (one_shifted k h) (and_mask v k)
+
+-- a byte of the lent ones is below 256
+pub bytes_lt : (s : List ℕ) → ((i : ℕ) → Fits w8 (slice_index_or s i 0)) → (b i : ℕ) → b ≡ slice_index_or s i 0 → b < 256
+bytes_lt s fits b i e = rw e (fits i).fits

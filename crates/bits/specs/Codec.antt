@@ -1,8 +1,7 @@
 -- The types of field that a header or a table of contents is made of, and how each is read.
 use Rattle.std.specs.Prelude.{ℕ, zero, suc, ◌+◌, ◌-◌, ◌*◌, ◌/◌, ◌%◌, ◌^◌, Bool, ◌&&◌, List, ℤ, pos, neg_ℤ, ◌==◌, nat_le}
+use Rattle.bits.specs.declared.Read.{Read}
 use Rattle.bits.specs.declared.Cursor.{Cursor}
-use Rattle.bits.specs.declared.Field.{Field}
-use Rattle.bits.specs.declared.Wide.{Wide}
 use Rattle.bits.specs.declared.Choice.{Choice}
 use Rattle.bits.specs.declared.Choices.{Choices}
 use Rattle.bits.specs.Refusals.{pick, clear}
@@ -71,12 +70,8 @@ steps padding p = takes ((8 - p % 8) % 8) λ x. pick (x == 0) (gives 0) (refuses
 steps (skip n) p = skips n (gives 0)
 
 -- the field where it is asked for and nothing was refused before it; else the default, and the cursor as it was
-unfoldable pub field : List ℕ → Bool → Codec → ℕ → Cursor → Field
+unfoldable pub field : List ℕ → Bool → Codec → ℕ → Cursor → Read ℕ
 field s on k d c = pick (on && clear c) (run (steps k c.at) s c.at c.at) (record { value = d; next = c })
-
--- a field of up to 64 bits
-abbrev pub wide_of : Field → Wide
-wide_of f = record { value = f.value; next = f.next }
 
 -- Signed: an even u means u / 2, an odd u means minus (u + 1) / 2.
 abbrev pub signed : ℕ → ℤ

@@ -1,5 +1,6 @@
 -- A bundle is a table of fields, as the Rust's `define_bundle!` is, and one interpreter reads every table.
 use Rattle.std.specs.Prelude.{ℕ, zero, suc, ◌-◌, Bool, ◌&&◌, List, [], ◌∷◌}
+use Rattle.bits.specs.declared.Read.{Read}
 use Rattle.bits.specs.declared.Cursor.{Cursor}
 use Rattle.bits.specs.Refusals.{pick, refusal, clear}
 use Rattle.bits.specs.Codec.{Codec, field}
@@ -12,16 +13,12 @@ pub data Table (R A : Type 0) : Type 0 where
   row : Bool → Codec → ℕ → (R → ℕ) → (ℕ → Table R A) → Table R A
   fails : Bool → ℕ → ℕ → Table R A → Table R A
 
-pub record Out (A : Type 0) : Type 0 where
-  pub value : A
-  pub next : Cursor
-
 -- a refusal so many bits back, unless there was one before
 unfoldable pub failed : Bool → ℕ → ℕ → Cursor → Cursor
 failed bad number back c =
     pick (bad && clear c) (record { at = c.at; fault = refusal number (c.at - back) }) c
 
-unfoldable pub read : {R A : Type 0} → Table R A → List ℕ → Cursor → Out A
+unfoldable pub read : {R A : Type 0} → Table R A → List ℕ → Cursor → Read A
 read (ends a) s c = record { value = a; next = c }
 read (row on k d v rest) s c = read (rest (field s on k d c).value) s (field s on k d c).next
 read (fails bad number back rest) s c = read rest s (failed bad number back c)

@@ -4,51 +4,49 @@ ghost use Rattle.bits.specs.Refusals.{clear};
 ghost use Rattle.bits.specs.Codec.{u, bool, padding, field};
 
 use crate::pieces::{cut_at, stop, take};
-use crate::{Cursor, Field, begin, kept};
+use crate::{Cursor, Read, begin, kept};
 
 // Whether a field is passed by: it is not asked for, or something was refused before it.
 pub fn idle(c: Cursor, on: bool) -> bool
     ensures { result ≡ not (on && clear c) }
 {
-    let fault = c.fault;
-    if on { fault.number != 0 } else { true }
+    !on || c.fault.number != 0
 }
 
 // u(n), n up to 32, where it is asked for.
-pub fn read_bits_if(s: &[u8], c: Cursor, on: bool, n: u32, default: u32) -> Field
+pub fn read_bits_if(s: &[u8], c: Cursor, on: bool, n: u32, default: u32) -> Read<u32>
     ensures { result ≡ field s.now on (u n) default c }
 {
     if idle(c, on) {
-        return Field {
+        return Read {
             value: default,
             next: kept(c),
         };
     }
     let at = c.at;
-    let x = take(s, at, n);
-    if !x.there {
+    let Some(x) = take(s, at, n) else {
         return cut_at(s, at, at, n);
-    }
-    Field {
+    };
+    Read {
         value: x.value,
         next: begin(x.at),
     }
 }
 
-pub fn read_bits(s: &[u8], c: Cursor, n: u32) -> Field
+pub fn read_bits(s: &[u8], c: Cursor, n: u32) -> Read<u32>
     ensures { result ≡ field s.now true (u n) 0 c }
 {
     read_bits_if(s, c, true, n, 0)
 }
 
 // A Bool, as 0 or 1, where it is asked for.
-pub fn read_bool_if(s: &[u8], c: Cursor, on: bool, default: u32) -> Field
+pub fn read_bool_if(s: &[u8], c: Cursor, on: bool, default: u32) -> Read<u32>
     ensures { result ≡ field s.now on bool default c }
 {
     read_bits_if(s, c, on, 1, default)
 }
 
-pub fn read_bool(s: &[u8], c: Cursor) -> Field
+pub fn read_bool(s: &[u8], c: Cursor) -> Read<u32>
     ensures { result ≡ field s.now true bool 0 c }
 {
     read_bits_if(s, c, true, 1, 0)
@@ -63,11 +61,9 @@ pub fn zero_pad_to_byte(s: &[u8], c: Cursor) -> Cursor
     }
     let at = c.at;
     let n = ((8 - at % 8) % 8) as u32;
-    let x = take(s, at, n);
-    if !x.there {
-        let f = cut_at(s, at, at, n);
-        return f.next;
-    }
+    let Some(x) = take(s, at, n) else {
+        return cut_at(s, at, at, n).next;
+    };
     if x.value == 0 {
         begin(x.at)
     } else {

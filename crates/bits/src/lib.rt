@@ -8,7 +8,7 @@ mod pieces;
 mod view;
 mod window;
 
-ghost use Rattle.std.specs.Prelude.{◌≡◌, ◌-◌, ◌&&◌, ◌||◌};
+ghost use Rattle.std.specs.Prelude.{◌≡◌, ◌&&◌, ◌||◌};
 ghost use Rattle.bits.specs.Refusals.{refusal, none, start};
 ghost use Rattle.bits.specs.Codec.{val, plus, one_of};
 ghost use Rattle.bits.specs.Table.{failed};
@@ -19,7 +19,7 @@ pub use view::{Seen, View, see, see_choice};
 pub use window::{Ahead, look_ahead, low_bits};
 
 // Why something was refused, and at which bit. Number 0: nothing was.
-#[derive(Clone, Copy)]
+#[derive(Clone, Copy, Debug, PartialEq, Eq)]
 pub struct Refusal {
     pub number: u32,
     pub place: u64,
@@ -32,17 +32,10 @@ pub struct Cursor {
     pub fault: Refusal,
 }
 
-// A field of up to 32 bits that was read, and the cursor after it. A Bool is 0 or 1, an f16 its 16-bit pattern.
+// What was read, and the cursor after it: a number, a Bool as 0 or 1, an f16 as its 16-bit pattern, or a whole bundle.
 #[derive(Clone, Copy)]
-pub struct Field {
-    pub value: u32,
-    pub next: Cursor,
-}
-
-// A field of up to 64 bits that was read.
-#[derive(Clone, Copy)]
-pub struct Wide {
-    pub value: u64,
+pub struct Read<T> {
+    pub value: T,
     pub next: Cursor,
 }
 
@@ -123,13 +116,6 @@ pub fn one_of(b0: u32, n0: u32, b1: u32, n1: u32, b2: u32, n2: u32, b3: u32, n3:
     }
 }
 
-// A place so many bits back, not before the start.
-fn so_far_back(at: u64, back: u64) -> u64
-    ensures { result ≡ at - back }
-{
-    if back <= at { at - back } else { 0 }
-}
-
 // A refusal on what was read, so many bits back, unless there was one before.
 pub fn refuse_if(c: Cursor, bad: bool, number: u32, back: u64) -> Cursor
     ensures { result ≡ failed bad number back c }
@@ -138,18 +124,18 @@ pub fn refuse_if(c: Cursor, bad: bool, number: u32, back: u64) -> Cursor
         return c;
     }
     let at = c.at;
-    let fault = refused(number, so_far_back(at, back));
+    let fault = refused(number, at.saturating_sub(back));
     Cursor { at, fault }
 }
 
 pub fn both(a: bool, b: bool) -> bool
     ensures { result ≡ (a && b) }
 {
-    if a { b } else { false }
+    a && b
 }
 
 pub fn either(a: bool, b: bool) -> bool
     ensures { result ≡ (a || b) }
 {
-    if a { true } else { b }
+    a || b
 }

@@ -5,12 +5,11 @@ ghost use Rattle.bits.specs.Steps.{stopped, refused_at, cut, cut_at, piece};
 ghost use Rattle.bits.specs.Extensions.{whole};
 
 use crate::window::{look_ahead, low_bits};
-use crate::{Cursor, Field, Refusal, Sum, refused};
+use crate::{Cursor, Read, Refusal, Sum, refused};
 
-// So many bits of a field: whether they are there, their value, and the place after them.
+// So many bits of a field: their value, and the place after them.
 #[derive(Clone, Copy)]
 pub struct Piece {
-    pub there: bool,
     pub value: u32,
     pub at: u64,
 }
@@ -42,30 +41,21 @@ fn is_there(s: &[u8], p: u64, n: u32, whole: bool) -> bool
     requires { whole ≡ (ahead s.now p).whole }
     ensures { result ≡ there s.now p n }
 {
-    if 32 < n {
-        return false;
-    }
-    if whole { true } else { reaches(s, p, n) }
+    n <= 32 && (whole || reaches(s, p, n))
 }
 
 // The n bits from p on, if they are there.
-pub fn take(s: &[u8], p: u64, n: u32) -> Piece
+pub fn take(s: &[u8], p: u64, n: u32) -> Option<Piece>
     ensures { result ≡ piece s.now p n }
 {
     let a = look_ahead(s, p);
-    if is_there(s, p, n, a.whole) {
-        Piece {
-            there: true,
-            value: low_bits(a.bits, n),
-            at: p + (n as u64),
-        }
-    } else {
-        Piece {
-            there: false,
-            value: 0,
-            at: p,
-        }
+    if !is_there(s, p, n, a.whole) {
+        return None;
     }
+    Some(Piece {
+        value: low_bits(a.bits, n),
+        at: p + (n as u64),
+    })
 }
 
 // A field that begins at p is refused there.
@@ -76,10 +66,10 @@ pub fn stop(number: u32, p: u64) -> Cursor
     Cursor { at: p, fault }
 }
 
-pub fn refused_at(number: u32, p: u64) -> Field
+pub fn refused_at(number: u32, p: u64) -> Read<u32>
     ensures { result ≡ refused_at number p }
 {
-    Field {
+    Read {
         value: 0,
         next: stop(number, p),
     }
@@ -100,7 +90,7 @@ pub fn stop_cut(s: &[u8], p: u64, q: u64, n: Sum) -> Cursor
 }
 
 // The same of a piece that a field knows, as the field's answer.
-pub fn cut_at(s: &[u8], p: u64, q: u64, n: u32) -> Field
+pub fn cut_at(s: &[u8], p: u64, q: u64, n: u32) -> Read<u32>
     ensures { result ≡ cut_at s.now p (q + n) }
 {
     let next = stop_cut(
@@ -112,5 +102,5 @@ pub fn cut_at(s: &[u8], p: u64, q: u64, n: u32) -> Field
             low: n as u64,
         },
     );
-    Field { value: 0, next }
+    Read { value: 0, next }
 }

@@ -3,7 +3,7 @@ ghost use Rattle.std.specs.Prelude.{◌≡◌};
 ghost use Rattle.bits.specs.View.{seen, seen_choice};
 
 use crate::Choice;
-use crate::window::{at_most_32, low_bits};
+use crate::window::low_bits;
 
 // Bits that are known, from a place on.
 #[derive(Clone, Copy)]
@@ -31,12 +31,12 @@ pub fn see(w: View, on: bool, n: u32) -> Seen
             rest: View { bits, at },
         };
     }
-    let k = at_most_32(n);
+    let k = n.min(32);
     Seen {
         value: low_bits(bits, k),
         rest: View {
             bits: bits >> k,
-            at: std::num::wrapping_add_u64(at, k as u64),
+            at: at.wrapping_add(k as u64),
         },
     }
 }
@@ -48,7 +48,7 @@ pub fn see_choice(selector: Seen, c: Choice) -> Seen
     let x = see(selector.rest, true, c.bits);
     let rest = x.rest;
     Seen {
-        value: std::num::wrapping_add_u32(c.base, x.value),
+        value: c.base.wrapping_add(x.value),
         rest,
     }
 }

@@ -9,31 +9,19 @@ pub struct Ahead {
     pub whole: bool,
 }
 
-fn wide(x: u8) -> u64
-    ensures { (result ≡ x) × (result < 256) }
-{
-    x as u64
-}
-
 // Eight bytes from i on, the first the lowest.
 fn word(s: &[u8], i: usize) -> u64
     requires { i + 8 ≤ length s.now }
     ensures { result ≡ bits_at s.now (8 * i) 64 }
 {
-    let b0 = wide(s[i]);
-    let b1 = b0 | (wide(s[i + 1]) << 8);
-    let b2 = b1 | (wide(s[i + 2]) << 16);
-    let b3 = b2 | (wide(s[i + 3]) << 24);
-    let b4 = b3 | (wide(s[i + 4]) << 32);
-    let b5 = b4 | (wide(s[i + 5]) << 40);
-    let b6 = b5 | (wide(s[i + 6]) << 48);
-    b6 | (wide(s[i + 7]) << 56)
-}
-
-fn least(a: usize, b: usize) -> usize
-    ensures { result ≡ min a b }
-{
-    if a < b { a } else { b }
+    let b0 = u64::from(s[i]);
+    let b1 = b0 | (u64::from(s[i + 1]) << 8);
+    let b2 = b1 | (u64::from(s[i + 2]) << 16);
+    let b3 = b2 | (u64::from(s[i + 3]) << 24);
+    let b4 = b3 | (u64::from(s[i + 4]) << 32);
+    let b5 = b4 | (u64::from(s[i + 5]) << 40);
+    let b6 = b5 | (u64::from(s[i + 6]) << 48);
+    b6 | (u64::from(s[i + 7]) << 56)
 }
 
 // The same one after another, zeros behind the last: where fewer than eight are left, or none.
@@ -41,15 +29,10 @@ fn word_at_end(s: &[u8], i: usize) -> u64
     requires { i < 2 ^ 61 }
     ensures { result ≡ bits_at s.now (8 * i) 64 }
 {
-    let end = least(s.len(), i + 8);
+    let end = s.len().min(i + 8);
     let mut v: u64 = 0;
-    let mut k: usize = i;
-    let mut shift: u32 = 0;
-    while k < end {
-        let b = wide(s[k]);
-        v = v | (b << shift);
-        k += 1;
-        shift += 8;
+    for k in i..end {
+        v |= u64::from(s[k]) << (8 * (k - i));
     }
     v
 }
@@ -95,17 +78,10 @@ pub fn look_ahead(s: &[u8], p: u64) -> Ahead
     }
 }
 
-pub fn at_most_32(n: u32) -> u32
-    ensures { result ≡ min n 32 }
-{
-    if n < 32 { n } else { 32 }
-}
-
 // The lowest n bits of a number, at most 32.
 pub fn low_bits(v: u64, n: u32) -> u32
     ensures { result ≡ v % 2 ^ min n 32 }
 {
-    let one: u64 = 1;
-    let k = at_most_32(n);
-    (v & ((one << k) - 1)) as u32
+    let k = n.min(32);
+    (v & ((1u64 << k) - 1)) as u32
 }

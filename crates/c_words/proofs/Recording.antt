@@ -9,9 +9,9 @@ use lib.IntN.{ℤ}
 use lib.ListN.{set}
 use lib.Seq.{sets}
 use borrow.Author.Tests.{eq-eqb, ne_eqb, lt-ltb}
+use Rattle.bits.specs.declared.Read.{Read}
 use Rattle.bits.specs.declared.Refusal.{Refusal}
 use Rattle.bits.specs.Refusals.{pick, refusal}
-use Rattle.bits.specs.Table.{Out}
 use Rattle.header.specs.declared.Facts.{Facts}
 use Rattle.header.specs.declared.FrameHeader.{FrameHeader}
 use Rattle.header.specs.declared.entry.HeaderAnswer.{HeaderAnswer}
@@ -76,7 +76,7 @@ module _ (a : HeaderAnswer) (word : ℕ) (ew : word ≡ status_of a.refusal) (wo
       record { status = ew; numbers = e1 ∙ rw yes; signs = e2 ∙ rw yes; reals = e3 ∙ rw yes }
 
 -- what is refused before anything is read stays so
-pub refused_by : (f : Facts) (r : Refusal) (h : Out Header) → eqb r.number 0 ≡ false → answered f r h ≡ refused_header r
+pub refused_by : (f : Facts) (r : Refusal) (h : Read Header) → eqb r.number 0 ≡ false → answered f r h ≡ refused_header r
 unfolding answered
 refused_by f r h e = rw (e, e)
 

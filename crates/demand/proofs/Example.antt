@@ -5,8 +5,9 @@ use native.Mathlib.Omega.{arith}
 use mathlib.Core.Path.{◌≡◌, refl, sym, ap}
 use mathlib.Core.List.{List, [], ◌∷◌}
 use lib.ListN.{length, get_or, take, replicate}
+use Rattle.bits.specs.declared.Read.{Read}
 use Rattle.bits.specs.declared.Refusal.{Refusal}
-use Rattle.bits.specs.Table.{Out, read, bind, within, times, failed}
+use Rattle.bits.specs.Table.{read, bind, within, times, failed}
 use Rattle.bits.specs.Codec.{field, more}
 use Rattle.bits.specs.Steps.{run, cut}
 use Rattle.bits.specs.Bits.{bits_at}
@@ -51,7 +52,7 @@ name = replicate 1071 0
 abbrev before : Refusal
 before = judged (length listed) (facts 300 100) (length name) 0 0
 
-abbrev h : Out Header
+abbrev h : Read Header
 h = stands (facts 300 100) listed
 
 -- what is due of the header entry, an answer with those numbers, and what a lent buffer holds afterwards

@@ -7,8 +7,8 @@ use mathlib.Core.Logic.{◌⊎◌, inl, inr}
 use mathlib.Core.List.{List}
 use mathlib.Core.Bool.{Bool, true, false, ◌&&◌, false≢true}
 use lib.Dec.{leb, eqb}
+use Rattle.bits.specs.declared.Read.{Read}
 use Rattle.bits.specs.declared.Cursor.{Cursor}
-use Rattle.bits.specs.declared.Field.{Field}
 use Rattle.bits.specs.declared.Choice.{Choice}
 use Rattle.bits.specs.declared.Choices.{Choices}
 use Rattle.bits.specs.Refusals.{pick, refusal, clear}
@@ -52,7 +52,7 @@ chosen_by false false false d x h = inr (inr (inr (x, h, refl)))
 run_may : (k : Codec) (s : List ℕ) (p : ℕ) → clear (run (steps k p) s p p).next ≡ true → May k (run (steps k p) s p p).value
 unfolding run cut
 run_may (u n) s p =
-    picked (λ (r : Field). clear r.next ≡ true → r.value < 2 ^ n) (there s p n) (run (gives (bits_at s p n)) s p (p + n)) (cut_at s p (p + n))
+    picked (λ (r : Read ℕ). clear r.next ≡ true → r.value < 2 ^ n) (there s p n) (run (gives (bits_at s p n)) s p (p + n)) (cut_at s p (p + n))
     (λ e h. bits_lt s p n)
     (λ e h. absurd (false≢true h))
 run_may (u32 d) s p =
@@ -60,10 +60,10 @@ run_may (u32 d) s p =
     let n : ℕ = (chosen d k).bits in
     let x : ℕ = bits_at s (p + 2) n in
     let v : ℕ = ((chosen d k).base + x) % 2 ^ 32 in
-    picked (λ (r : Field). clear r.next ≡ true → May (u32 d) r.value) (there s p 2)
+    picked (λ (r : Read ℕ). clear r.next ≡ true → May (u32 d) r.value) (there s p 2)
     (run (takes n λ x. gives (((chosen d k).base + x) % 2 ^ 32)) s p (p + 2)) (cut_at s p (p + 2))
     (λ e.
-    picked (λ (r : Field). clear r.next ≡ true → May (u32 d) r.value) (there s (p + 2) n) (run (gives v) s p (p + 2 + n))
+    picked (λ (r : Read ℕ). clear r.next ≡ true → May (u32 d) r.value) (there s (p + 2) n) (run (gives v) s p (p + 2 + n))
     (cut_at s p (p + 2 + n))
     (λ e h. chosen_by (eqb k 0) (eqb k 1) (eqb k 2) d x (bits_lt s (p + 2) n))
     (λ e h. absurd (false≢true h)))
@@ -78,7 +78,7 @@ run_may (skip n) s p = λ h. tt
 field_may : (s : List ℕ) (on : Bool) (k : Codec) (d : ℕ) (c : Cursor) → clear (field s on k d c).next ≡ true → Reading k d (field s on k d c).value
 unfolding field
 field_may s on k d c =
-    picked (λ (r : Field). clear r.next ≡ true → Reading k d r.value) (on && clear c) (run (steps k c.at) s c.at c.at)
+    picked (λ (r : Read ℕ). clear r.next ≡ true → Reading k d r.value) (on && clear c) (run (steps k c.at) s c.at c.at)
     (record { value = d; next = c })
     (λ e h. inl (run_may k s c.at h))
     (λ e h. inr refl)
@@ -117,7 +117,7 @@ stops f16 p = λ h. of_both Stops (eqb (exponent h) 31) (refuses 6) (gives h) (i
 stops padding p = λ x. of_both Stops (eqb x 0) (gives 0) (refuses 12) tt (inr refl)
 stops (skip n) p = tt
 
-abbrev Owned : Field → Type 0
+abbrev Owned : Read ℕ → Type 0
 Owned r = Own r.next.fault.number
 
 run_own : (t : Steps) → Stops t → (s : List ℕ) (p q : ℕ) → Owned (run t s p q)

@@ -11,12 +11,12 @@ use lib.Dec.{eqb}
 use lib.ListN.{get_or}
 use lib.Ieee.{Float, nan}
 use borrow.Author.Tests.{eqb-true, eqb-false, not-true}
+use Rattle.bits.specs.declared.Read.{Read}
 use Rattle.bits.specs.declared.Cursor.{Cursor}
-use Rattle.bits.specs.declared.Field.{Field}
 use Rattle.bits.specs.Refusals.{pick}
 use Rattle.bits.specs.Half.{half}
 use Rattle.bits.specs.Codec.{u, bool, u64, f16, field}
-use Rattle.bits.specs.Table.{Table, Out, read, bind}
+use Rattle.bits.specs.Table.{Table, read, bind}
 use Rattle.bits.specs.Extensions.{extensions}
 use Rattle.bits.proofs.Bits.{and_left, and_right}
 use Rattle.bits.proofs.Rows.{Reads, row_then, bind_then, within_then, at_end}
@@ -60,7 +60,7 @@ unfolding float
 float_read_lem on d column s c = row_then (field s on f16 d c) refl at_end
 
 -- so many floats, by themselves
-abbrev alone : Bool → ℕ → List ℕ → Cursor → Out (List Float)
+abbrev alone : Bool → ℕ → List ℕ → Cursor → Read (List Float)
 alone on count s c = read (floats on count (λ (l : List Float). l)) s c
 
 floats_read : {R : Type 0} (on : Bool) (count : ℕ) (values : R → List Float) (s : List ℕ) (c : Cursor)
@@ -77,7 +77,7 @@ unfolding floats
 floats_columns on count values s c r h =
     columns_times (λ i. float on 0 λ r. pattern_at (values r) i) s r (on ≡ true) (λ j. get_or (values r) j nan) nan
     (λ j at is.
-    float_columns on 0 (λ r. pattern_at (values r) j) s at r (omega arith) (λ here. ap pattern (is here ∙ ap (λ (o : Out Float). o.value) (float_read_lem on 0 _ s at).is))) count 0 c
+    float_columns on 0 (λ r. pattern_at (values r) j) s at r (omega arith) (λ here. ap pattern (is here ∙ ap (λ (o : Read Float). o.value) (float_read_lem on 0 _ s at).is))) count 0 c
     (λ here k l. ap (λ (j : ℕ). get_or (values r) j nan) (zero-add k) ∙ h here k l)
 
 -- values that are sent only where a Bool says so, which is read only where it is asked for
@@ -94,8 +94,8 @@ pub channel_columns : (on : Bool) (i : ℕ) (s : List ℕ) (c : Cursor) (r : Gab
     → Columns (channel on i) s c r
 unfolding channel Columns read
 channel_columns on i s c r first second =
-    let a : Field = field s on f16 0 c in
-    let b : Field = field s on f16 0 a.next in (
+    let a : Read ℕ = field s on f16 0 c in
+    let b : Read ℕ = field s on f16 0 a.next in (
       λ here. ap pattern (first here) ∙ pattern_half a.value (half_small s on 0 c (omega arith)),
       (λ here. ap pattern (second here) ∙ pattern_half b.value (half_small s on 0 a.next (omega arith)), tt),
     )
@@ -118,19 +118,19 @@ enabled_back enabled own x y z h =
     ∙ bit_by enabled h (eqb enabled 1) refl
 
 module _ (on : Bool) (s : List ℕ) (c : Cursor) where
-  abbrev enabled : Field
+  abbrev enabled : Read ℕ
   enabled = field s on bool 1 c
 
-  abbrev own : Field
+  abbrev own : Read ℕ
   own = field s (on && eqb enabled.value 1) bool 0 enabled.next
 
-  abbrev first : Out Channel
+  abbrev first : Read Channel
   first = read (channel (eqb own.value 1) 0) s own.next
 
-  abbrev second : Out Channel
+  abbrev second : Read Channel
   second = read (channel (eqb own.value 1) 1) s first.next
 
-  abbrev third : Out Channel
+  abbrev third : Read Channel
   third = read (channel (eqb own.value 1) 2) s second.next
 
   abbrev made : Gabor
@@ -172,22 +172,22 @@ module _ (on : Bool) (s : List ℕ) (c : Cursor) where
 
   pub gabor_columns : GaborSent → Columns (gabor on) s c (read (gabor on) s c).value
   gabor_columns sent =
-      let is : (read (gabor on) s c).value ≡ made = ap (λ (o : Out Gabor). o.value) gabor_read_lem.is in
+      let is : (read (gabor on) s c).value ≡ made = ap (λ (o : Read Gabor). o.value) gabor_read_lem.is in
       rw is (gabor_given is sent)
 
 -- ---- the edge-preserving filter
 
 module _ (on : Bool) (s : List ℕ) (c : Cursor) where
-  abbrev told : Field
+  abbrev told : Read ℕ
   told = field s on bool 0 c
 
-  abbrev luts : Out (List Float)
+  abbrev luts : Read (List Float)
   luts = alone (eqb told.value 1) 8 s told.next
 
-  abbrev factors : Out (List Float)
+  abbrev factors : Read (List Float)
   factors = alone (eqb told.value 1) 3 s told.next
 
-  abbrev ignored : Field
+  abbrev ignored : Read ℕ
   ignored = field s (eqb told.value 1) (u 32) 0 factors.next
 
   sharp_read_lem : Reads (sharp on) s c (record { value = pick (eqb told.value 1) luts.value sharp_default; next = luts.next })
@@ -215,7 +215,7 @@ module _ (on : Bool) (s : List ℕ) (c : Cursor) where
       floats_columns (eqb told.value 1) n values s told.next r (λ here k l.
       let own = alone (eqb told.value 1) n s told.next in
       let sent : values r ≡ own.value = is (asked on s c here) ∙ rw here in
-      let same : (read (floats (eqb told.value 1) n values) s told.next).value ≡ own.value = ap (λ (o : Out (List Float)). o.value) (floats_read (eqb told.value 1) n values s told.next).is in
+      let same : (read (floats (eqb told.value 1) n values) s told.next).value ≡ own.value = ap (λ (o : Read (List Float)). o.value) (floats_read (eqb told.value 1) n values s told.next).is in
       ap (λ (v : List Float). get_or v k nan) (sent ∙ sym same))
 
   -- where they are asked for, the record has what was read
@@ -225,7 +225,7 @@ module _ (on : Bool) (s : List ℕ) (c : Cursor) where
     sharp_columns is sent = (
       λ here. rw (is here) (sent here),
       columns_bind _ _ s told.next r
-          (values_columns 8 (λ (r : EpfParams). r.sharp_lut) sharp_default r (λ here. is here ∙ ap (λ (o : Out (List Float)). o.value) sharp_read_lem.is))
+          (values_columns 8 (λ (r : EpfParams). r.sharp_lut) sharp_default r (λ here. is here ∙ ap (λ (o : Read (List Float)). o.value) sharp_read_lem.is))
           tt,
     )
 
@@ -234,24 +234,24 @@ module _ (on : Bool) (s : List ℕ) (c : Cursor) where
     scale_columns is sent = (
       λ here. rw (is here) (sent.told here),
       columns_bind _ _ s told.next r
-          (values_columns 3 (λ (r : EpfParams). r.channel_scale) scale_default r (λ here. is here ∙ ap (λ (o : Out (List Float)). o.value) scale_read_lem.is))
+          (values_columns 3 (λ (r : EpfParams). r.channel_scale) scale_default r (λ here. is here ∙ ap (λ (o : Read (List Float)). o.value) scale_read_lem.is))
           (λ here. rw (floats_read (eqb told.value 1) 3 (λ (r : EpfParams). r.channel_scale) s told.next).is (sym (sent.ignored here)), tt),
     )
 
 module _ (on modular : Bool) (s : List ℕ) (c : Cursor) where
-  abbrev given : Field
+  abbrev given : Read ℕ
   given = field s on bool 0 c
 
-  abbrev quant : Field
+  abbrev quant : Read ℕ
   quant = field s (eqb given.value 1 && not modular) f16 0 given.next
 
-  abbrev pass0 : Field
+  abbrev pass0 : Read ℕ
   pass0 = field s (eqb given.value 1) f16 0 quant.next
 
-  abbrev pass2 : Field
+  abbrev pass2 : Read ℕ
   pass2 = field s (eqb given.value 1) f16 0 pass0.next
 
-  abbrev border : Field
+  abbrev border : Read ℕ
   border = field s (eqb given.value 1) f16 0 pass2.next
 
   abbrev four : EpfSigma
@@ -278,7 +278,7 @@ module _ (on modular : Bool) (s : List ℕ) (c : Cursor) where
           pass2_sigma_scale = half pass2.value;
           border_sad_mul = half border.value;
         }
-    sigma_is here = is (asked on s c here) ∙ ap (λ (o : Out EpfSigma). o.value) sigma_read_lem.is ∙ rw here
+    sigma_is here = is (asked on s c here) ∙ ap (λ (o : Read EpfSigma). o.value) sigma_read_lem.is ∙ rw here
 
     pub sigma_columns : SigmaSent → Columns (sigma on modular) s c r
     unfolding sigma Columns
@@ -298,22 +298,22 @@ iters_back true n p e = sym (eqb-true n 0 e)
 iters_back false n p e = refl
 
 module _ (on modular : Bool) (s : List ℕ) (c : Cursor) where
-  abbrev rounds : Field
+  abbrev rounds : Read ℕ
   rounds = field s on (u 2) 2 c
 
   abbrev live : Bool
   live = on && not (eqb rounds.value 0)
 
-  abbrev lut : Out (List Float)
+  abbrev lut : Read (List Float)
   lut = read (sharp (live && not modular)) s rounds.next
 
-  abbrev scales : Out (List Float)
+  abbrev scales : Read (List Float)
   scales = read (scale live) s lut.next
 
-  abbrev sigma_out : Out EpfSigma
+  abbrev sigma_out : Read EpfSigma
   sigma_out = read (sigma live modular) s scales.next
 
-  abbrev flat : Field
+  abbrev flat : Read ℕ
   flat = field s (live && modular) f16 15360 sigma_out.next
 
   abbrev params : EpfParams
@@ -361,19 +361,19 @@ module _ (on modular : Bool) (s : List ℕ) (c : Cursor) where
 -- ---- the whole bundle
 
 module _ (on modular : Bool) (s : List ℕ) (c : Cursor) where
-  abbrev all : Field
+  abbrev all : Read ℕ
   all = field s on bool 1 c
 
   abbrev asks : Bool
   asks = on && eqb all.value 0
 
-  abbrev gab : Out Gabor
+  abbrev gab : Read Gabor
   gab = read (gabor asks) s all.next
 
-  abbrev edges : Out EdgePreservingFilter
+  abbrev edges : Read EdgePreservingFilter
   edges = read (epf asks modular) s gab.next
 
-  abbrev behind : Out ℕ
+  abbrev behind : Read ℕ
   behind = read (extensions asks) s edges.next
 
   restoration_read : Reads (restoration on modular) s c (record { value = record { gab = gab.value; epf = edges.value }; next = behind.next })

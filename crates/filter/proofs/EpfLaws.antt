@@ -6,31 +6,26 @@ use mathlib.Core.Bool.{Bool, true, false, not, ◌&&◌}
 use lib.Dec.{eqb}
 use lib.Ieee.{Float}
 use borrow.Author.Tests.{eq-eqb, ne_eqb, not-true, not-false}
+use Rattle.bits.specs.declared.Read.{Read}
 use Rattle.bits.specs.declared.Cursor.{Cursor}
-use Rattle.bits.specs.declared.Field.{Field}
 use Rattle.bits.specs.Refusals.{pick}
 use Rattle.bits.specs.Half.{half}
 use Rattle.bits.specs.Codec.{u, bool, f16, field}
 use Rattle.bits.specs.Table.{read}
 use Rattle.bits.proofs.Rows.{Reads, row_then, bind_then, within_then, times_then, times_end, at_end}
-use Rattle.filter.specs.declared.floats.FloatRead.{FloatRead}
 use Rattle.filter.specs.declared.settings.EpfSigma.{EpfSigma}
 use Rattle.filter.specs.declared.settings.EpfParams.{EpfParams}
-use Rattle.filter.specs.declared.settings.SharpRead.{SharpRead}
-use Rattle.filter.specs.declared.settings.ScaleRead.{ScaleRead}
-use Rattle.filter.specs.declared.settings.SigmaRead.{SigmaRead}
 use Rattle.filter.specs.declared.epf.EdgePreservingFilter.{EdgePreservingFilter}
-use Rattle.filter.specs.declared.epf.EpfRead.{EpfRead}
 use Rattle.filter.specs.Values.{decimal, float, floats}
-use Rattle.filter.specs.Private.{float_read, sharp_read, scale_read, sigma_read}
-use Rattle.filter.specs.Epf.{sharp_default, scale_default, sigma_default, settings, epf_default, epf_disabled, sharp, scale, sigma, sigma_of, epf_of, epf, epf_read}
+use Rattle.filter.specs.Private.{float_read}
+use Rattle.filter.specs.Epf.{sharp_default, scale_default, sigma_default, settings, epf_default, epf_disabled, sharp, scale, sigma, sigma_of, epf_of, epf}
 
-pub float_read_lem : (s : List ℕ) (on : Bool) (d : ℕ) (c : Cursor) (h : Field) (value : Float) → h ≡ field s on f16 d c → value ≡ half h.value
-    → ◌≡◌ {A = FloatRead} (record { value = value; next = h.next }) (float_read (field s on f16 d c))
+pub float_read_lem : (s : List ℕ) (on : Bool) (d : ℕ) (c : Cursor) (h : Read ℕ) (value : Float) → h ≡ field s on f16 d c → value ≡ half h.value
+    → ◌≡◌ {A = Read Float} (record { value = value; next = h.next }) (float_read (field s on f16 d c))
 float_read_lem s on d c h value eh ev = rw (← eh, ev)
 
 -- what the function for a float answers, as the table reads it
-float_out : {R : Type 0} (on : Bool) (d : ℕ) (v : R → ℕ) (s : List ℕ) (c : Cursor) (x : FloatRead) → x ≡ float_read (field s on f16 d c)
+float_out : {R : Type 0} (on : Bool) (d : ℕ) (v : R → ℕ) (s : List ℕ) (c : Cursor) (x : Read Float) → x ≡ float_read (field s on f16 d c)
     → Reads (float on d v) s c (record { value = x.value; next = x.next })
 unfolding float
 float_out on d v s c x e = rw e (row_then (field s on f16 d c) refl at_end)
@@ -57,8 +52,8 @@ pub epf_default_is : (lut scales : List Float) (four : EpfSigma) (m : Float) →
 unfolding epf_default
 epf_default_is lut scales four m a b d e = rw (a, b, d, e)
 
-module _ (s : List ℕ) (on : Bool) (k : Cursor) (flag : Field) (pf : flag ≡ field s on bool 0 k) where
-  pub sharp_is : (x0 x1 x2 x3 x4 x5 x6 x7 : FloatRead) (value : List Float)
+module _ (s : List ℕ) (on : Bool) (k : Cursor) (flag : Read ℕ) (pf : flag ≡ field s on bool 0 k) where
+  pub sharp_is : (x0 x1 x2 x3 x4 x5 x6 x7 : Read Float) (value : List Float)
       → x0 ≡ float_read (field s (eqb flag.value 1) f16 0 flag.next)
       → x1 ≡ float_read (field s (eqb flag.value 1) f16 0 x0.next)
       → x2 ≡ float_read (field s (eqb flag.value 1) f16 0 x1.next)
@@ -69,7 +64,7 @@ module _ (s : List ℕ) (on : Bool) (k : Cursor) (flag : Field) (pf : flag ≡ f
       → x7 ≡ float_read (field s (eqb flag.value 1) f16 0 x6.next)
       → value ≡ pick (eqb flag.value 1)
       (x0.value ∷ x1.value ∷ x2.value ∷ x3.value ∷ x4.value ∷ x5.value ∷ x6.value ∷ x7.value ∷ []) sharp_default
-      → ◌≡◌ {A = SharpRead} (record { value = value; next = x7.next }) (sharp_read (read (sharp on) s k))
+      → ◌≡◌ {A = Read (List Float)} (record { value = value; next = x7.next }) ((read (sharp on) s k))
   unfolding sharp floats
   sharp_is x0 x1 x2 x3 x4 x5 x6 x7 value p0 p1 p2 p3 p4 p5 p6 p7 pv =
       let all : Reads (sharp on) s k (record { value = value; next = x7.next }) =
@@ -87,13 +82,13 @@ module _ (s : List ℕ) (on : Bool) (k : Cursor) (flag : Field) (pf : flag ≡ f
       (rw pv at_end)) in
       rw all.is
 
-  pub scale_is : (x0 x1 x2 : FloatRead) (ignored : Field) (value : List Float)
+  pub scale_is : (x0 x1 x2 : Read Float) (ignored : Read ℕ) (value : List Float)
       → x0 ≡ float_read (field s (eqb flag.value 1) f16 0 flag.next)
       → x1 ≡ float_read (field s (eqb flag.value 1) f16 0 x0.next)
       → x2 ≡ float_read (field s (eqb flag.value 1) f16 0 x1.next)
       → ignored ≡ field s (eqb flag.value 1) (u 32) 0 x2.next
       → value ≡ pick (eqb flag.value 1) (x0.value ∷ x1.value ∷ x2.value ∷ []) scale_default
-      → ◌≡◌ {A = ScaleRead} (record { value = value; next = ignored.next }) (scale_read (read (scale on) s k))
+      → ◌≡◌ {A = Read (List Float)} (record { value = value; next = ignored.next }) ((read (scale on) s k))
   unfolding scale floats
   scale_is x0 x1 x2 ignored value p0 p1 p2 pi pv =
       let all : Reads (scale on) s k (record { value = value; next = ignored.next }) =
@@ -107,14 +102,14 @@ module _ (s : List ℕ) (on : Bool) (k : Cursor) (flag : Field) (pf : flag ≡ f
       (rw pv at_end))) in
       rw all.is
 
-  pub sigma_is : (modular quant : Bool) (q a b d : FloatRead) (value : EpfSigma)
+  pub sigma_is : (modular quant : Bool) (q a b d : Read Float) (value : EpfSigma)
       → quant ≡ (eqb flag.value 1 && not modular)
       → q ≡ float_read (field s quant f16 0 flag.next)
       → a ≡ float_read (field s (eqb flag.value 1) f16 0 q.next)
       → b ≡ float_read (field s (eqb flag.value 1) f16 0 a.next)
       → d ≡ float_read (field s (eqb flag.value 1) f16 0 b.next)
       → value ≡ sigma_of (eqb flag.value 1) modular q.value a.value b.value d.value
-      → ◌≡◌ {A = SigmaRead} (record { value = value; next = d.next }) (sigma_read (read (sigma on modular) s k))
+      → ◌≡◌ {A = Read EpfSigma} (record { value = value; next = d.next }) ((read (sigma on modular) s k))
   unfolding sigma
   sigma_is modular quant q a b d value pm pq pa pb pd pv =
       let all : Reads (sigma on modular) s k (record { value = value; next = d.next }) =
@@ -127,28 +122,28 @@ module _ (s : List ℕ) (on : Bool) (k : Cursor) (flag : Field) (pf : flag ≡ f
       rw all.is
 
 -- a group's answer as its table reads it
-sharp_out : (on : Bool) (s : List ℕ) (c : Cursor) (x : SharpRead) → x ≡ sharp_read (read (sharp on) s c) → Reads (sharp on) s c (record { value = x.value; next = x.next })
+sharp_out : (on : Bool) (s : List ℕ) (c : Cursor) (x : Read (List Float)) → x ≡ (read (sharp on) s c) → Reads (sharp on) s c (record { value = x.value; next = x.next })
 sharp_out on s c x e = record { is = rw e }
 
-scale_out : (on : Bool) (s : List ℕ) (c : Cursor) (x : ScaleRead) → x ≡ scale_read (read (scale on) s c) → Reads (scale on) s c (record { value = x.value; next = x.next })
+scale_out : (on : Bool) (s : List ℕ) (c : Cursor) (x : Read (List Float)) → x ≡ (read (scale on) s c) → Reads (scale on) s c (record { value = x.value; next = x.next })
 scale_out on s c x e = record { is = rw e }
 
-sigma_out_lem : (on modular : Bool) (s : List ℕ) (c : Cursor) (x : SigmaRead) → x ≡ sigma_read (read (sigma on modular) s c)
+sigma_out_lem : (on modular : Bool) (s : List ℕ) (c : Cursor) (x : Read EpfSigma) → x ≡ (read (sigma on modular) s c)
     → Reads (sigma on modular) s c (record { value = x.value; next = x.next })
 sigma_out_lem on modular s c x e = record { is = rw e }
 
-pub epf_is : (s : List ℕ) (on modular : Bool) (k : Cursor) (iters : Field) (live dct own : Bool)
-    (lut : SharpRead) (scales : ScaleRead) (four : SigmaRead) (m : FloatRead) (value : EdgePreservingFilter)
+pub epf_is : (s : List ℕ) (on modular : Bool) (k : Cursor) (iters : Read ℕ) (live dct own : Bool)
+    (lut : Read (List Float)) (scales : Read (List Float)) (four : Read EpfSigma) (m : Read Float) (value : EdgePreservingFilter)
     → iters ≡ field s on (u 2) 2 k
     → live ≡ (on && not (eqb iters.value 0))
     → dct ≡ (live && not modular)
-    → lut ≡ sharp_read (read (sharp dct) s iters.next)
-    → scales ≡ scale_read (read (scale live) s lut.next)
-    → four ≡ sigma_read (read (sigma live modular) s scales.next)
+    → lut ≡ (read (sharp dct) s iters.next)
+    → scales ≡ (read (scale live) s lut.next)
+    → four ≡ (read (sigma live modular) s scales.next)
     → own ≡ (live && modular)
     → m ≡ float_read (field s own f16 15360 four.next)
     → value ≡ epf_of iters.value (settings lut.value scales.value four.value m.value)
-    → ◌≡◌ {A = EpfRead} (record { value = value; next = m.next }) (epf_read (read (epf on modular) s k))
+    → ◌≡◌ {A = Read EdgePreservingFilter} (record { value = value; next = m.next }) ((read (epf on modular) s k))
 unfolding epf
 epf_is s on modular k iters live dct own lut scales four m value pi pl pd pu ps pf po pm pv =
     let all : Reads (epf on modular) s k (record { value = value; next = m.next }) =

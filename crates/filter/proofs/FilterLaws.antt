@@ -6,30 +6,27 @@ use mathlib.Core.Bool.{Bool, true, false, not, ◌&&◌}
 use lib.Dec.{eqb}
 use lib.Ieee.{round}
 use borrow.Author.Tests.{not-true}
+use Rattle.bits.specs.declared.Read.{Read}
 use Rattle.bits.specs.declared.Cursor.{Cursor}
-use Rattle.bits.specs.declared.Field.{Field}
 use Rattle.bits.specs.Half.{half}
 use Rattle.bits.specs.Codec.{bool, field}
-use Rattle.bits.specs.Table.{Out, read, failed, bind, within, times}
+use Rattle.bits.specs.Table.{read, failed, bind, within, times}
 use Rattle.bits.specs.Extensions.{extensions}
 use Rattle.bits.proofs.Tables.{field_off, lengths_none}
 use Rattle.bits.proofs.Rows.{Reads, row_then, bind_then, within_then, at_end}
 use Rattle.filter.specs.declared.gabor.Gabor.{Gabor}
-use Rattle.filter.specs.declared.gabor.GaborRead.{GaborRead}
 use Rattle.filter.specs.declared.epf.EdgePreservingFilter.{EdgePreservingFilter}
-use Rattle.filter.specs.declared.epf.EpfRead.{EpfRead}
 use Rattle.filter.specs.declared.RestorationFilter.{RestorationFilter}
-use Rattle.filter.specs.declared.FilterRead.{FilterRead}
 use Rattle.filter.specs.Values.{decimal, float, floats}
 use Rattle.filter.specs.Weights.{unbalanced}
-use Rattle.filter.specs.Gabor.{gabor_default, gabor_disabled, gabor_of, channel, gabor, gabor_read}
-use Rattle.filter.specs.Epf.{epf_default, epf_disabled, sharp, scale, sigma, epf, epf_read}
-use Rattle.filter.specs.Filter.{restoration, filter_default, filter_disabled, filter_read}
+use Rattle.filter.specs.Gabor.{gabor_default, gabor_disabled, gabor_of, channel, gabor}
+use Rattle.filter.specs.Epf.{epf_default, epf_disabled, sharp, scale, sigma, epf}
+use Rattle.filter.specs.Filter.{restoration, filter_default, filter_disabled}
 
-gabor_out : (on : Bool) (s : List ℕ) (c : Cursor) (x : GaborRead) → x ≡ gabor_read (read (gabor on) s c) → Reads (gabor on) s c (record { value = x.value; next = x.next })
+gabor_out : (on : Bool) (s : List ℕ) (c : Cursor) (x : Read Gabor) → x ≡ (read (gabor on) s c) → Reads (gabor on) s c (record { value = x.value; next = x.next })
 gabor_out on s c x e = record { is = rw e }
 
-epf_out : (on modular : Bool) (s : List ℕ) (c : Cursor) (x : EpfRead) → x ≡ epf_read (read (epf on modular) s c)
+epf_out : (on modular : Bool) (s : List ℕ) (c : Cursor) (x : Read EdgePreservingFilter) → x ≡ (read (epf on modular) s c)
     → Reads (epf on modular) s c (record { value = x.value; next = x.next })
 epf_out on modular s c x e = record { is = rw e }
 
@@ -37,13 +34,13 @@ extensions_out : (on : Bool) (s : List ℕ) (c next : Cursor) → next ≡ (read
     → Reads (extensions on) s c (record { value = (read (extensions on) s c).value; next = next })
 extensions_out on s c next e = record { is = rw e }
 
-pub filter_is : (s : List ℕ) (on modular : Bool) (k : Cursor) (all : Field) (live : Bool) (g : GaborRead) (e : EpfRead) (next : Cursor)
+pub filter_is : (s : List ℕ) (on modular : Bool) (k : Cursor) (all : Read ℕ) (live : Bool) (g : Read Gabor) (e : Read EdgePreservingFilter) (next : Cursor)
     → all ≡ field s on bool 1 k
     → live ≡ (on && eqb all.value 0)
-    → g ≡ gabor_read (read (gabor live) s all.next)
-    → e ≡ epf_read (read (epf live modular) s g.next)
+    → g ≡ (read (gabor live) s all.next)
+    → e ≡ (read (epf live modular) s g.next)
     → next ≡ (read (extensions live) s e.next).next
-    → ◌≡◌ {A = FilterRead} (record { value = record { gab = g.value; epf = e.value }; next = next }) (filter_read (read (restoration on modular) s k))
+    → ◌≡◌ {A = Read RestorationFilter} (record { value = record { gab = g.value; epf = e.value }; next = next }) ((read (restoration on modular) s k))
 unfolding restoration
 filter_is s on modular k all live g e next pa pl pg pe pn =
     let b = on && eqb all.value 0 in
@@ -75,7 +72,7 @@ extensions_off s c =
 
 -- Where the bundle isn't asked for, or its all_default bit is 1, both filters are the default ones and nothing more is read.
 pub filter_default_lem : (s : List ℕ) (on modular : Bool) (c : Cursor) → (on && eqb (field s on bool 1 c).value 0) ≡ false
-    → ◌≡◌ {A = Out RestorationFilter} (read (restoration on modular) s c) (record { value = filter_default; next = (field s on bool 1 c).next })
+    → ◌≡◌ {A = Read RestorationFilter} (read (restoration on modular) s c) (record { value = filter_default; next = (field s on bool 1 c).next })
 unfolding restoration filter_default
 filter_default_lem s on modular c h =
     let all = field s on bool 1 c in
@@ -88,10 +85,10 @@ filter_default_lem s on modular c h =
     whole.is
 
 -- the same of what a call answers
-pub filter_unread : (s : List ℕ) (on modular : Bool) (k : Cursor) (all : Field) (live : Bool) (d : RestorationFilter) → all ≡ field s on bool 1 k → live ≡ (on && eqb all.value 0)
-    → not live ≡ true → d ≡ filter_default → ◌≡◌ {A = FilterRead} (record { value = d; next = all.next }) (filter_read (read (restoration on modular) s k))
+pub filter_unread : (s : List ℕ) (on modular : Bool) (k : Cursor) (all : Read ℕ) (live : Bool) (d : RestorationFilter) → all ≡ field s on bool 1 k → live ≡ (on && eqb all.value 0)
+    → not live ≡ true → d ≡ filter_default → ◌≡◌ {A = Read RestorationFilter} (record { value = d; next = all.next }) ((read (restoration on modular) s k))
 filter_unread s on modular k all live d pa pl h pd =
-    rw (pd, pa) (sym (ap (λ (o : Out RestorationFilter). filter_read o) (filter_default_lem s on modular k (rw pa at (sym pl ∙ not-true live h)))))
+    rw (pd, pa) (sym ((filter_default_lem s on modular k (rw pa at (sym pl ∙ not-true live h)))))
 
 pub both_default : (g : Gabor) (e : EdgePreservingFilter) → g ≡ gabor_default → e ≡ epf_default → ◌≡◌ {A = RestorationFilter} (record { gab = g; epf = e }) filter_default
 unfolding filter_default

@@ -6,19 +6,16 @@ use mathlib.Core.Bool.{Bool, true, ◌&&◌}
 use lib.Dec.{eqb}
 use lib.Ieee.{Float}
 use borrow.Author.Tests.{eq-eqb, ne_eqb}
+use Rattle.bits.specs.declared.Read.{Read}
 use Rattle.bits.specs.declared.Cursor.{Cursor}
-use Rattle.bits.specs.declared.Field.{Field}
 use Rattle.bits.specs.Half.{half}
 use Rattle.bits.specs.Codec.{bool, f16, field}
 use Rattle.bits.specs.Table.{failed, read}
 use Rattle.bits.proofs.Rows.{Reads, row_then, bind_then, at_end}
 use Rattle.filter.specs.declared.gabor.Gabor.{Gabor}
-use Rattle.filter.specs.declared.gabor.GaborRead.{GaborRead}
 use Rattle.filter.specs.declared.gabor.Channel.{Channel}
-use Rattle.filter.specs.declared.gabor.ChannelRead.{ChannelRead}
 use Rattle.filter.specs.Weights.{unbalanced}
-use Rattle.filter.specs.Gabor.{weights_of, gabor_default, gabor_disabled, gabor_of, channel, gabor, gabor_read}
-use Rattle.filter.specs.Private.{channel_read}
+use Rattle.filter.specs.Gabor.{weights_of, gabor_default, gabor_disabled, gabor_of, channel, gabor}
 
 module _ (enabled own : ℕ) (x y z : Channel) where
   pub of_disabled : (enabled ≡ 1 → ⊥) → gabor_disabled ≡ gabor_of enabled own x y z
@@ -33,14 +30,14 @@ module _ (enabled own : ℕ) (x y z : Channel) where
   unfolding gabor_of
   of_custom h k = rw (eq-eqb enabled 1 h, eq-eqb own 1 k)
 
-pub channel_is : (s : List ℕ) (on : Bool) (k : Cursor) (a b : Field) (bad : Bool) (next : Cursor) (first second : Float)
+pub channel_is : (s : List ℕ) (on : Bool) (k : Cursor) (a b : Read ℕ) (bad : Bool) (next : Cursor) (first second : Float)
     → a ≡ field s on f16 0 k
     → b ≡ field s on f16 0 a.next
     → bad ≡ unbalanced a.value b.value
     → next ≡ failed bad 7 32 b.next
     → first ≡ half a.value
     → second ≡ half b.value
-    → ◌≡◌ {A = ChannelRead} (record { value = record { first = first; second = second }; next = next }) (channel_read (read (channel on 0) s k))
+    → ◌≡◌ {A = Read Channel} (record { value = record { first = first; second = second }; next = next }) ((read (channel on 0) s k))
 unfolding channel read
 channel_is s on k a b bad next first second pa pb pbad pn p1 p2 = rw (← pa, ← pb, ← pbad, ← pn, ← p1, ← p2)
 
@@ -50,19 +47,19 @@ unfolding channel read
 channel_any on i s c = refl
 
 -- what a channel's function answers, as the table reads it
-channel_out : (on : Bool) (i : ℕ) (s : List ℕ) (c : Cursor) (x : ChannelRead) → x ≡ channel_read (read (channel on 0) s c)
+channel_out : (on : Bool) (i : ℕ) (s : List ℕ) (c : Cursor) (x : Read Channel) → x ≡ (read (channel on 0) s c)
     → Reads (channel on i) s c (record { value = x.value; next = x.next })
 channel_out on i s c x e = record { is = channel_any on i s c ∙ rw e }
 
-pub gabor_is : (s : List ℕ) (on : Bool) (k : Cursor) (enabled own : Field) (live : Bool) (x y z : ChannelRead) (g : Gabor)
+pub gabor_is : (s : List ℕ) (on : Bool) (k : Cursor) (enabled own : Read ℕ) (live : Bool) (x y z : Read Channel) (g : Gabor)
     → enabled ≡ field s on bool 1 k
     → live ≡ (on && eqb enabled.value 1)
     → own ≡ field s live bool 0 enabled.next
-    → x ≡ channel_read (read (channel (eqb own.value 1) 0) s own.next)
-    → y ≡ channel_read (read (channel (eqb own.value 1) 0) s x.next)
-    → z ≡ channel_read (read (channel (eqb own.value 1) 0) s y.next)
+    → x ≡ (read (channel (eqb own.value 1) 0) s own.next)
+    → y ≡ (read (channel (eqb own.value 1) 0) s x.next)
+    → z ≡ (read (channel (eqb own.value 1) 0) s y.next)
     → g ≡ gabor_of enabled.value own.value x.value y.value z.value
-    → ◌≡◌ {A = GaborRead} (record { value = g; next = z.next }) (gabor_read (read (gabor on) s k))
+    → ◌≡◌ {A = Read Gabor} (record { value = g; next = z.next }) ((read (gabor on) s k))
 unfolding gabor
 gabor_is s on k enabled own live x y z g pe pl po px py pz pg =
     let all : Reads (gabor on) s k (record { value = g; next = z.next }) =

@@ -1,12 +1,12 @@
 -- `EdgePreservingFilter`, as src/filter.rs reads it: a flag and the iterations, and beside them its settings.
+use Rattle.bits.specs.declared.Read.{Read}
 use Rattle.std.specs.Prelude.{ℕ, Bool, true, false, not, ◌&&◌, List, [], ◌∷◌, eqb, Float}
 use Rattle.bits.specs.Refusals.{pick}
 use Rattle.bits.specs.Codec.{u, bool}
-use Rattle.bits.specs.Table.{Table, Out, ends, row, bind, within}
+use Rattle.bits.specs.Table.{Table, ends, row, bind, within}
 use Rattle.filter.specs.declared.settings.EpfSigma.{EpfSigma}
 use Rattle.filter.specs.declared.settings.EpfParams.{EpfParams}
 use Rattle.filter.specs.declared.epf.EdgePreservingFilter.{EdgePreservingFilter}
-use Rattle.filter.specs.declared.epf.EpfRead.{EpfRead}
 use Rattle.filter.specs.Values.{decimal, plus_zero, quotient, pattern, custom, float, floats}
 
 -- 0.0, k / 7 for k from 1 to 6, 1.0
@@ -120,5 +120,3 @@ epf on modular =
     bind (float (live && modular) 15360 λ r. pattern r.params.sigma_for_modular) λ m.
     ends (epf_of iters (settings lut scales four m))
 
-abbrev pub epf_read : Out EdgePreservingFilter → EpfRead
-epf_read o = record { value = o.value; next = o.next }

@@ -1,10 +1,10 @@
 -- `RestorationFilter`, as the bundle of src/header.rs.
+use Rattle.bits.specs.declared.Read.{Read}
 use Rattle.std.specs.Prelude.{Bool, ◌&&◌, eqb}
 use Rattle.bits.specs.Codec.{bool}
-use Rattle.bits.specs.Table.{Table, Out, ends, row, bind, within}
+use Rattle.bits.specs.Table.{Table, ends, row, bind, within}
 use Rattle.bits.specs.Extensions.{extensions}
 use Rattle.filter.specs.declared.RestorationFilter.{RestorationFilter}
-use Rattle.filter.specs.declared.FilterRead.{FilterRead}
 use Rattle.filter.specs.Gabor.{gabor, gabor_default, gabor_disabled}
 use Rattle.filter.specs.Epf.{epf, epf_default, epf_disabled}
 
@@ -27,6 +27,3 @@ filter_default = record { gab = gabor_default; epf = epf_default }
 unfoldable pub filter_disabled : RestorationFilter
 filter_disabled = record { gab = gabor_disabled; epf = epf_disabled }
 
--- what was read, and the cursor after it
-abbrev pub filter_read : Out RestorationFilter → FilterRead
-filter_read o = record { value = o.value; next = o.next }

@@ -1,11 +1,11 @@
 -- `Gabor`, as src/filter.rs reads it: a flag, and for each of three channels two weights.
+use Rattle.bits.specs.declared.Read.{Read}
 use Rattle.std.specs.Prelude.{ℕ, ◌+◌, ◌*◌, Bool, true, false, ◌&&◌, List, [], ◌∷◌, eqb, Float}
 use Rattle.bits.specs.Refusals.{pick}
 use Rattle.bits.specs.Codec.{bool, f16}
 use Rattle.bits.specs.Half.{half}
-use Rattle.bits.specs.Table.{Table, Out, ends, row, fails, bind}
+use Rattle.bits.specs.Table.{Table, ends, row, fails, bind}
 use Rattle.filter.specs.declared.gabor.Gabor.{Gabor}
-use Rattle.filter.specs.declared.gabor.GaborRead.{GaborRead}
 use Rattle.filter.specs.declared.gabor.Channel.{Channel}
 use Rattle.filter.specs.Values.{decimal, plus_zero, pattern_at, custom}
 use Rattle.filter.specs.Weights.{unbalanced}
@@ -50,5 +50,3 @@ gabor on =
     bind (channel (eqb own 1) 2) λ z.
     ends (gabor_of enabled own x y z)
 
-abbrev pub gabor_read : Out Gabor → GaborRead
-gabor_read o = record { value = o.value; next = o.next }

@@ -1,26 +1,20 @@
 // The edge-preserving filter: a flag and the iterations beside its settings.
 ghost use Rattle.std.specs.Prelude.{◌≡◌};
 ghost use Rattle.bits.specs.Table.{read};
-ghost use Rattle.filter.specs.Epf.{epf_default, epf_disabled, epf_of, epf, epf_read};
+ghost use Rattle.filter.specs.Epf.{epf_default, epf_disabled, epf_of, epf};
 
 use crate::floats::read_float_if;
 use crate::settings::{
     EpfParams, read_scale_if, read_sharp_if, read_sigma_if, scale_default, sharp_default,
     sigma_default,
 };
-use bits::Cursor;
+use bits::{Cursor, Read};
 
 #[derive(Clone, Copy)]
 pub struct EdgePreservingFilter {
     pub enabled: bool,
     pub iters: u32,
     pub params: EpfParams,
-}
-
-#[derive(Clone, Copy)]
-pub struct EpfRead {
-    pub value: EdgePreservingFilter,
-    pub next: Cursor,
 }
 
 // A disabled filter: no iterations, and every value is +0.0.
@@ -82,8 +76,8 @@ fn epf_of(iters: u32, params: EpfParams) -> EdgePreservingFilter
 }
 
 // The bundle, where it is asked for; else the default.
-pub fn read_epf_if(s: &[u8], c: Cursor, on: bool, modular: bool) -> EpfRead
-    ensures { result ≡ epf_read (read (epf on modular) s.now c) }
+pub fn read_epf_if(s: &[u8], c: Cursor, on: bool, modular: bool) -> Read<EdgePreservingFilter>
+    ensures { result ≡ read (epf on modular) s.now c }
 {
     let iters = bits::read_bits_if(s, c, on, 2, 2);
     let live = bits::both(on, iters.value != 0);
@@ -105,7 +99,7 @@ pub fn read_epf_if(s: &[u8], c: Cursor, on: bool, modular: bool) -> EpfRead
     };
     let value = epf_of(iters.value, params);
     let next = own.next;
-    EpfRead { value, next }
+    Read { value, next }
 }
 
 impl EdgePreservingFilter {

@@ -1,11 +1,10 @@
 // Gabor: a flag beside six weights, two a channel.
 ghost use Rattle.std.specs.Prelude.{◌≡◌};
 ghost use Rattle.bits.specs.Table.{read};
-ghost use Rattle.filter.specs.Gabor.{gabor_default, gabor_disabled, gabor_of, channel, gabor, gabor_read};
-ghost use Rattle.filter.specs.Private.{channel_read};
+ghost use Rattle.filter.specs.Gabor.{gabor_default, gabor_disabled, gabor_of, channel, gabor};
 
 use crate::weights::is_unbalanced;
-use bits::Cursor;
+use bits::{Cursor, Read};
 
 // Channel by channel, two weights each.
 #[derive(Clone, Copy)]
@@ -14,23 +13,11 @@ pub struct Gabor {
     pub weights: [f32; 6],
 }
 
-#[derive(Clone, Copy)]
-pub struct GaborRead {
-    pub value: Gabor,
-    pub next: Cursor,
-}
-
 // A channel's two weights.
 #[derive(Clone, Copy)]
 pub struct Channel {
     pub first: f32,
     pub second: f32,
-}
-
-#[derive(Clone, Copy)]
-pub struct ChannelRead {
-    pub value: Channel,
-    pub next: Cursor,
 }
 
 // `Gabor::default()`.
@@ -77,8 +64,8 @@ fn gabor_of(enabled: u32, own: u32, x: Channel, y: Channel, z: Channel) -> Gabor
 }
 
 // A channel's weights where they are asked for; 7 where the two are unbalanced, at the first of them.
-fn read_channel_if(s: &[u8], c: Cursor, on: bool) -> ChannelRead
-    ensures { result ≡ channel_read (read (channel on 0) s.now c) }
+fn read_channel_if(s: &[u8], c: Cursor, on: bool) -> Read<Channel>
+    ensures { result ≡ read (channel on 0) s.now c }
 {
     let a = numbers::read_f16_if(s, c, on, 0);
     let b = numbers::read_f16_if(s, a.next, on, 0);
@@ -86,15 +73,15 @@ fn read_channel_if(s: &[u8], c: Cursor, on: bool) -> ChannelRead
     let next = bits::refuse_if(b.next, bad, 7, 32);
     let first = numbers::f16_to_f32(a.value);
     let second = numbers::f16_to_f32(b.value);
-    ChannelRead {
+    Read {
         value: Channel { first, second },
         next,
     }
 }
 
 // The bundle, where it is asked for; else the default.
-pub fn read_gabor_if(s: &[u8], c: Cursor, on: bool) -> GaborRead
-    ensures { result ≡ gabor_read (read (gabor on) s.now c) }
+pub fn read_gabor_if(s: &[u8], c: Cursor, on: bool) -> Read<Gabor>
+    ensures { result ≡ read (gabor on) s.now c }
 {
     let enabled = bits::read_bool_if(s, c, on, 1);
     let live = bits::both(on, enabled.value == 1);
@@ -104,7 +91,7 @@ pub fn read_gabor_if(s: &[u8], c: Cursor, on: bool) -> GaborRead
     let y = read_channel_if(s, x.next, custom);
     let z = read_channel_if(s, y.next, custom);
     let next = z.next;
-    GaborRead {
+    Read {
         value: gabor_of(enabled.value, own.value, x.value, y.value, z.value),
         next,
     }

@@ -9,11 +9,11 @@ mod weights;
 
 ghost use Rattle.std.specs.Prelude.{◌≡◌};
 ghost use Rattle.bits.specs.Table.{read};
-ghost use Rattle.filter.specs.Filter.{restoration, filter_default, filter_disabled, filter_read};
+ghost use Rattle.filter.specs.Filter.{restoration, filter_default, filter_disabled};
 
-use bits::Cursor;
-pub use epf::{EdgePreservingFilter, EpfRead, read_epf_if};
-pub use gabor::{Gabor, GaborRead, read_gabor_if};
+use bits::{Cursor, Read};
+pub use epf::{EdgePreservingFilter, read_epf_if};
+pub use gabor::{Gabor, read_gabor_if};
 pub use settings::EpfParams;
 pub use weights::is_unbalanced;
 
@@ -21,13 +21,6 @@ pub use weights::is_unbalanced;
 pub struct RestorationFilter {
     pub gab: Gabor,
     pub epf: EdgePreservingFilter,
-}
-
-// What was read of the bundle, and the cursor after it.
-#[derive(Clone, Copy)]
-pub struct FilterRead {
-    pub value: RestorationFilter,
-    pub next: Cursor,
 }
 
 // Both default filters: what a bundle stands for that isn't sent, or is all default.
@@ -41,22 +34,22 @@ pub fn default_filter() -> RestorationFilter
 
 // The bundle `RestorationFilter`, where it is asked for; else both default filters, and nothing more is looked at. `modular`: the frame's
 // encoding is Modular.
-pub fn read_restoration_filter_if(s: &[u8], c: Cursor, on: bool, modular: bool) -> FilterRead
-    ensures { result ≡ filter_read (read (restoration on modular) s.now c) }
+pub fn read_restoration_filter_if(s: &[u8], c: Cursor, on: bool, modular: bool) -> Read<RestorationFilter>
+    ensures { result ≡ read (restoration on modular) s.now c }
 {
     let all_default = bits::read_bool_if(s, c, on, 1);
     let live = bits::both(on, all_default.value == 0);
     if !live {
         let value = default_filter();
         let next = all_default.next;
-        return FilterRead { value, next };
+        return Read { value, next };
     }
     let g = read_gabor_if(s, all_default.next, live);
     let e = read_epf_if(s, g.next, live, modular);
     let next = numbers::read_extensions_if(s, e.next, live);
     let gab = g.value;
     let epf = e.value;
-    FilterRead {
+    Read {
         value: RestorationFilter { gab, epf },
         next,
     }

@@ -3,10 +3,9 @@ ghost use Rattle.std.specs.Prelude.{◌≡◌};
 ghost use Rattle.bits.specs.Refusals.{pick};
 ghost use Rattle.bits.specs.Table.{read};
 ghost use Rattle.filter.specs.Epf.{sharp_default, scale_default, sigma_default, sharp, scale, sigma, sigma_of};
-ghost use Rattle.filter.specs.Private.{sharp_read, scale_read, sigma_read};
 
 use crate::floats::read_float_if;
-use bits::Cursor;
+use bits::{Cursor, Read};
 
 #[derive(Clone, Copy)]
 pub struct EpfParams {
@@ -26,24 +25,6 @@ pub struct EpfSigma {
     pub pass0_sigma_scale: f32,
     pub pass2_sigma_scale: f32,
     pub border_sad_mul: f32,
-}
-
-#[derive(Clone, Copy)]
-pub struct SharpRead {
-    pub value: [f32; 8],
-    pub next: Cursor,
-}
-
-#[derive(Clone, Copy)]
-pub struct ScaleRead {
-    pub value: [f32; 3],
-    pub next: Cursor,
-}
-
-#[derive(Clone, Copy)]
-pub struct SigmaRead {
-    pub value: EpfSigma,
-    pub next: Cursor,
 }
 
 // EPF_SHARP_LUT_DEFAULT.
@@ -111,8 +92,8 @@ fn sigma_of(own: bool, modular: bool, q: f32, a: f32, b: f32, d: f32) -> EpfSigm
 }
 
 // The sharpness values.
-pub fn read_sharp_if(s: &[u8], c: Cursor, on: bool) -> SharpRead
-    ensures { result ≡ sharp_read (read (sharp on) s.now c) }
+pub fn read_sharp_if(s: &[u8], c: Cursor, on: bool) -> Read<[f32; 8]>
+    ensures { result ≡ read (sharp on) s.now c }
 {
     let flag = bits::read_bool_if(s, c, on, 0);
     let own = flag.value == 1;
@@ -129,12 +110,12 @@ pub fn read_sharp_if(s: &[u8], c: Cursor, on: bool) -> SharpRead
     ];
     let value = sharp_of(own, values);
     let next = x7.next;
-    SharpRead { value, next }
+    Read { value, next }
 }
 
 // The channel scales, and the 32 bits after them that are ignored.
-pub fn read_scale_if(s: &[u8], c: Cursor, on: bool) -> ScaleRead
-    ensures { result ≡ scale_read (read (scale on) s.now c) }
+pub fn read_scale_if(s: &[u8], c: Cursor, on: bool) -> Read<[f32; 3]>
+    ensures { result ≡ read (scale on) s.now c }
 {
     let flag = bits::read_bool_if(s, c, on, 0);
     let own = flag.value == 1;
@@ -145,12 +126,12 @@ pub fn read_scale_if(s: &[u8], c: Cursor, on: bool) -> ScaleRead
     let values = [x0.value, x1.value, x2.value];
     let value = scale_of(own, values);
     let next = ignored.next;
-    ScaleRead { value, next }
+    Read { value, next }
 }
 
 // The sigma values.
-pub fn read_sigma_if(s: &[u8], c: Cursor, on: bool, modular: bool) -> SigmaRead
-    ensures { result ≡ sigma_read (read (sigma on modular) s.now c) }
+pub fn read_sigma_if(s: &[u8], c: Cursor, on: bool, modular: bool) -> Read<EpfSigma>
+    ensures { result ≡ read (sigma on modular) s.now c }
 {
     let flag = bits::read_bool_if(s, c, on, 0);
     let own = flag.value == 1;
@@ -161,5 +142,5 @@ pub fn read_sigma_if(s: &[u8], c: Cursor, on: bool, modular: bool) -> SigmaRead
     let d = read_float_if(s, b.next, own, 0);
     let value = sigma_of(own, modular, q.value, a.value, b.value, d.value);
     let next = d.next;
-    SigmaRead { value, next }
+    Read { value, next }
 }

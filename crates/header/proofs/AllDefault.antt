@@ -7,12 +7,12 @@ use mathlib.Core.List.{List, []}
 use lib.ListN.{replicate}
 use lib.Seq.{sets}
 use borrow.Author.Tests.{le-ltb}
+use Rattle.bits.specs.declared.Read.{Read}
 use Rattle.bits.specs.declared.Cursor.{Cursor}
-use Rattle.bits.specs.declared.Field.{Field}
 use Rattle.bits.specs.declared.Refusal.{Refusal}
 use Rattle.bits.specs.Refusals.{none, start}
 use Rattle.bits.specs.Codec.{Codec, bool, u32, field}
-use Rattle.bits.specs.Table.{Table, Out, read, bind, within, times}
+use Rattle.bits.specs.Table.{Table, read, bind, within, times}
 use Rattle.bits.proofs.Tables.{field_off, read_within}
 use Rattle.bits.proofs.Rows.{Reads, row_then, bind_then, within_then, times_then, times_end, at_end}
 use Rattle.filter.proofs.FilterLaws.{filter_default_lem, extensions_off}
@@ -54,7 +54,7 @@ blending_within_off : {R : Type 0} (g : R → Blending) (full : Bool) (d : Decid
 blending_within_off g full d s c = record { is = read_within g (blending false true full d) s c ∙ (blending_off true full d s c).is }
 
 module _ (f : Facts) (s : List ℕ) (c : Cursor) where
-  opening_off : (b : Cursor) → ◌≡◌ {A = Field} (record { value = 1; next = c }) (field s true bool 1 b) → Reads (opening f) s b (record { value = (default_front f).opening; next = c })
+  opening_off : (b : Cursor) → ◌≡◌ {A = Read ℕ} (record { value = 1; next = c }) (field s true bool 1 b) → Reads (opening f) s b (record { value = (default_front f).opening; next = c })
   unfolding opening default_front read field
   opening_off b e = row_then (record { value = 1; next = c }) e (record { is = refl })
 
@@ -74,7 +74,7 @@ module _ (f : Facts) (s : List ℕ) (c : Cursor) where
   unfolding closing default_front default_back read field
   closing_off resets = record { is = refl }
 
-  front_off : ◌≡◌ {A = Field} (record { value = 1; next = c }) (field s true bool 1 (start 0))
+  front_off : ◌≡◌ {A = Read ℕ} (record { value = 1; next = c }) (field s true bool 1 (start 0))
       → Reads (front f) s (start 0) (record { value = record { front = default_front f; upsampling = replicate f.extra 1 }; next = c })
   unfolding front default_front
   front_off e =
@@ -95,7 +95,7 @@ module _ (f : Facts) (s : List ℕ) (c : Cursor) where
       (within_then _ _ _ _ _ (extensions_off s c) at_end)))))
 
   -- the header that is that bit
-  pub header_off : ◌≡◌ {A = Field} (record { value = 1; next = c }) (field s true bool 1 (start 0))
+  pub header_off : ◌≡◌ {A = Read ℕ} (record { value = 1; next = c }) (field s true bool 1 (start 0))
       → read (header f) s (start 0)
       ≡ record { value = record { front = default_front f; upsampling = replicate f.extra 1; back = default_back; blending = replicate f.extra no_blending; name = [] }; next = c }
   unfolding header
@@ -111,6 +111,6 @@ module _ (f : Facts) (s : List ℕ) (c : Cursor) where
       → Defaulted f c.at (record { header = h; end = c.at; refusal = acc }) upsampling upsampling' channels channels'
   default_given fr ba h acc w e upsampling upsampling' channels channels' pf pb ph pa wu we = record {
     answer = rw (ph, pf, pb, pa);
-    upsampled = wu.words ∙ ap (λ (o : Out (List ℕ)). sets upsampling 0 o.value) (array_none (u32 upsamplings) 1 _ s c f.extra).is;
-    blended = we.content ∙ ap (λ (o : Out (List Blending)). sets channels 0 (words o.value)) (times_none _ no_blending s c (λ i. blending_off true true (source_decider f 0) s c) f.extra 0).is;
+    upsampled = wu.words ∙ ap (λ (o : Read (List ℕ)). sets upsampling 0 o.value) (array_none (u32 upsamplings) 1 _ s c f.extra).is;
+    blended = we.content ∙ ap (λ (o : Read (List Blending)). sets channels 0 (words o.value)) (times_none _ no_blending s c (λ i. blending_off true true (source_decider f 0) s c) f.extra 0).is;
   }

@@ -7,10 +7,10 @@ use mathlib.Core.Bool.{Bool, true, not, ◌&&◌}
 use mathlib.Core.List.{List}
 use lib.Dec.{eqb}
 use lib.ListN.{get_or}
+use Rattle.bits.specs.declared.Read.{Read}
 use Rattle.bits.specs.declared.Cursor.{Cursor}
-use Rattle.bits.specs.declared.Field.{Field}
 use Rattle.bits.specs.Codec.{Codec, u, u32, u64, field}
-use Rattle.bits.specs.Table.{Table, Out, read, bind, within, times}
+use Rattle.bits.specs.Table.{Table, read, bind, within, times}
 use Rattle.bits.specs.Extensions.{extensions}
 use Rattle.bits.proofs.Tables.{read_within}
 use Rattle.bits.proofs.Rows.{Reads, row_then, bind_then, within_then, at_end}
@@ -83,7 +83,7 @@ module _ (s : List ℕ) (c : Cursor) where
 -- ---- arrays
 
 -- what an array reads, whatever its columns
-abbrev words : Codec → ℕ → ℕ → ℕ → List ℕ → Cursor → Out (List ℕ)
+abbrev words : Codec → ℕ → ℕ → ℕ → List ℕ → Cursor → Read (List ℕ)
 words k limit count d s c = read (array k limit count d (λ (x : List ℕ) (i : ℕ). 0)) s c
 
 module _ {R : Type 0} (k : Codec) (limit count d : ℕ) (col : R → ℕ → ℕ) (s : List ℕ) (c : Cursor) where
@@ -96,7 +96,7 @@ module _ {R : Type 0} (k : Codec) (limit count d : ℕ) (col : R → ℕ → ℕ
     unfolding element Columns read
     array_columns =
         columns_times (element k limit d col) s r (Unit {0}) (col r) d (λ j at here. (λ on. here tt, tt)) count 0 c
-        (λ known i l. ap (col r) (zero-add i) ∙ is i l ∙ ap (λ (o : Out (List ℕ)). get_or o.value i d) (sym array_read.is))
+        (λ known i l. ap (col r) (zero-add i) ∙ is i l ∙ ap (λ (o : Read (List ℕ)). get_or o.value i d) (sym array_read.is))
 
     -- and then the rest
     pub array_then : {B : Type 0} (f : List ℕ → Table R B) → Columns (f (words k limit count d s c).value) s (words k limit count d s c).next r
@@ -104,19 +104,19 @@ module _ {R : Type 0} (k : Codec) (limit count d : ℕ) (col : R → ℕ → ℕ
     array_then f rest = columns_bind (array k limit count d col) f s c r array_columns (rw array_read.is rest)
 
 module _ (on : Bool) (s : List ℕ) (c : Cursor) where
-  abbrev count : Field
+  abbrev count : Read ℕ
   count = field s on (u32 pass_counts) 1 c
 
-  abbrev scaled : Field
+  abbrev scaled : Read ℕ
   scaled = field s (not (eqb count.value 1)) (u32 downsamples) 0 count.next
 
-  abbrev shifts : Out (List ℕ)
+  abbrev shifts : Read (List ℕ)
   shifts = words (u 2) (count.value - 1) 10 0 s scaled.next
 
-  abbrev factors : Out (List ℕ)
+  abbrev factors : Read (List ℕ)
   factors = words (u32 upsamplings) scaled.value 4 0 s shifts.next
 
-  abbrev lasts : Out (List ℕ)
+  abbrev lasts : Read (List ℕ)
   lasts = words (u32 last_passes) scaled.value 4 0 s factors.next
 
   abbrev all_passes : Passes
@@ -155,19 +155,19 @@ module _ (on : Bool) (s : List ℕ) (c : Cursor) where
 -- ---- the header's two parts. Their columns are of a whole header, whose parts are those that were read.
 
 module _ (f : Facts) (s : List ℕ) (c : Cursor) where
-  abbrev opened : Out Opening
+  abbrev opened : Read Opening
   opened = read (opening f) s c
 
-  abbrev sized : Out (List ℕ)
+  abbrev sized : Read (List ℕ)
   sized = words (u32 upsamplings) (sent_upsampling f opened.value) f.extra 1 s opened.next
 
-  abbrev shaped : Out Scales
+  abbrev shaped : Read Scales
   shaped = read (scales f opened.value) s sized.next
 
-  abbrev passed : Out Passes
+  abbrev passed : Read Passes
   passed = read (passes (eqb opened.value.all_default 0 && not (eqb opened.value.frame_type 2))) s shaped.next
 
-  abbrev placed : Out Placement
+  abbrev placed : Read Placement
   placed = read (placement f opened.value) s passed.next
 
   abbrev begun : Begun
@@ -196,22 +196,22 @@ module _ (f : Facts) (s : List ℕ) (c : Cursor) where
       (columns_inside _ _ _ s passed.next h (rw is (placement_columns s passed.next f opened.value)) tt))))
 
 module _ (f : Facts) (o : Opening) (p : Placement) (s : List ℕ) (c : Cursor) where
-  abbrev colour : Out Blending
+  abbrev colour : Read Blending
   colour = read (blending (sends_blending o) (not (eqb f.extra 0)) (covers_image f p) by_own) s c
 
-  abbrev channels : Out (List Blending)
+  abbrev channels : Read (List Blending)
   channels = read (extras (sends_blending o) f.extra (covers_image f p) (source_decider f colour.value.mode)) s colour.next
 
-  abbrev closed : Out Closing
+  abbrev closed : Read Closing
   closed = read (closing f o (resets colour.value.mode (covers_image f p))) s channels.next
 
-  abbrev named : Out (List ℕ)
+  abbrev named : Read (List ℕ)
   named = words (u 8) closed.value.name_length closed.value.name_length 0 s closed.next
 
-  abbrev filtered : Out RestorationFilter
+  abbrev filtered : Read RestorationFilter
   filtered = read (restoration (eqb o.all_default 0) (eqb o.encoding 1)) s named.next
 
-  abbrev skipped : Out ℕ
+  abbrev skipped : Read ℕ
   skipped = read (extensions (eqb o.all_default 0)) s filtered.next
 
   abbrev ended : Ended
@@ -250,7 +250,7 @@ module _ (f : Facts) (o : Opening) (p : Placement) (s : List ℕ) (c : Cursor) w
         (λ j c here.
         columns_within (at j) own s c h (rw (here tt, read_within (at j) own s c) (blending_columns s c (sends_blending o) true (covers_image f p) (source_decider f colour.value.mode))))
         f.extra 0 colour.next
-        (λ known k l. ap (λ (j : ℕ). at j h) (zero-add k) ∙ is k l ∙ ap (λ (x : Out (List Blending)). get_or x.value k no_blending) (sym channels_read))
+        (λ known k l. ap (λ (j : ℕ). at j h) (zero-add k) ∙ is k l ∙ ap (λ (x : Read (List Blending)). get_or x.value k no_blending) (sym channels_read))
 
     channels_then : {B : Type 0} (g : List Blending → Table Header B) → Columns (g channels.value) s channels.next h
         → Columns (bind (times f.extra 0 (λ i. within (at i) own)) g) s colour.next h
@@ -269,10 +269,10 @@ module _ (f : Facts) (o : Opening) (p : Placement) (s : List ℕ) (c : Cursor) w
 -- ---- the whole header
 
 module _ (f : Facts) (s : List ℕ) (c : Cursor) where
-  abbrev ahead : Out Begun
+  abbrev ahead : Read Begun
   ahead = read (front f) s c
 
-  abbrev behind : Out Ended
+  abbrev behind : Read Ended
   behind = read (back f ahead.value.front.opening ahead.value.front.placement) s ahead.next
 
   abbrev whole : Header
@@ -299,10 +299,10 @@ module _ (f : Facts) (s : List ℕ) (c : Cursor) where
       let begun = front_read f s c in
       let ended = back_read f ahead.value.front.opening ahead.value.front.placement s ahead.next in
       columns_bind _ _ s c whole
-      (front_columns f s c sent.all_default whole (ap (λ (x : Out Begun). x.value.front) begun.is) (ap (λ (x : Out Begun). x.value.upsampling) begun.is))
+      (front_columns f s c sent.all_default whole (ap (λ (x : Read Begun). x.value.front) begun.is) (ap (λ (x : Read Begun). x.value.upsampling) begun.is))
       (columns_bind _ _ s ahead.next whole
       (back_columns f ahead.value.front.opening ahead.value.front.placement s ahead.next sent.back whole
-      (ap (λ (x : Out Ended). x.value.back) ended.is) (ap (λ (x : Out Ended). x.value.blending) ended.is) (ap (λ (x : Out Ended). x.value.name) ended.is))
+      (ap (λ (x : Read Ended). x.value.back) ended.is) (ap (λ (x : Read Ended). x.value.blending) ended.is) (ap (λ (x : Read Ended). x.value.name) ended.is))
       tt)
 
   -- of the header that was read

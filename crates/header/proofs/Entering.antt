@@ -9,14 +9,14 @@ use lib.IntN.{ℤ}
 use lib.ListN.{length, take}
 use lib.Seq.{sets, length-sets}
 use borrow.Author.Tests.{lt-ltb, le-ltb, eq-eqb, ne_eqb}
+use Rattle.bits.specs.declared.Read.{Read}
 use Rattle.bits.specs.declared.Refusal.{Refusal}
 use Rattle.bits.specs.declared.Cursor.{Cursor}
 use Rattle.bits.specs.Refusals.{pick, refusal, none, start}
-use Rattle.bits.specs.declared.Field.{Field}
 use Rattle.bits.specs.Codec.{u, u32, bool, field, signed}
 use Rattle.bits.specs.Bits.{bits_at, there}
 use Rattle.bits.specs.Steps.{cut_at, run}
-use Rattle.bits.specs.Table.{Out, read}
+use Rattle.bits.specs.Table.{read}
 use Rattle.bits.proofs.Values.{bits_small, case_small}
 use Rattle.header.specs.declared.Facts.{Facts}
 use Rattle.header.specs.declared.FrameHeader.{FrameHeader}
@@ -82,7 +82,7 @@ pub header_law : (f : Facts) (s : List ℕ) (a : FrontRead) (b : BackRead) (w w'
 unfolding header read
 header_law f s a b w w' x x' fa fb =
     let ups = (read (array (u32 upsamplings) (sent_upsampling f a.value.opening) f.extra 1 (λ (x : List ℕ) (i : ℕ). 0)) s a.upsampling_at).value in
-    let first : ◌≡◌ {A = Out Begun} (record { value = record { front = a.value; upsampling = ups }; next = a.next }) (read (front f) s (start 0)) =
+    let first : ◌≡◌ {A = Read Begun} (record { value = record { front = a.value; upsampling = ups }; next = a.next }) (read (front f) s (start 0)) =
     sym (λ i. record { value = record { front = fa.value i; upsampling = fa.upsampling i }; next = fa.next i }) in
     let second : ◌≡◌ {A = Ended} (read (back f a.value.opening a.value.placement) s a.next).value (record {
       back = b.value;
@@ -93,13 +93,13 @@ header_law f s a b w w' x x' fa fb =
     ∙ read_then (back f a.value.opening a.value.placement) _ s a.next (read (back f a.value.opening a.value.placement) s a.next) refl
     ∙ rw (second, fb.next)
 
-one_by : (s : List ℕ) (t : Bool) (v : ℕ) (all : Field) → all ≡ pick t (record { value = v; next = start 1 }) (cut_at s 0 1) → all.value ≡ 1 → all.next ≡ start 1
-one_by s true v all e h = ap (λ (x : Field). x.next) e
-one_by s false v all e h = absurd (omega (arith, ap (λ (x : Field). x.value) e, h))
+one_by : (s : List ℕ) (t : Bool) (v : ℕ) (all : Read ℕ) → all ≡ pick t (record { value = v; next = start 1 }) (cut_at s 0 1) → all.value ≡ 1 → all.next ≡ start 1
+one_by s true v all e h = ap (λ (x : Read ℕ). x.next) e
+one_by s false v all e h = absurd (omega (arith, ap (λ (x : Read ℕ). x.value) e, h))
 
 -- the first bit, where it is one: it is what the header's first field reads, and the cursor behind it has no fault
-module _ (s : List ℕ) (b : Cursor) (all : Field) (pb : b ≡ start 0) (pa : all ≡ field s true bool 0 b) (one : all.value ≡ 1) where
-  one_read : ◌≡◌ {A = Field} (record { value = 1; next = all.next }) (field s true bool 1 (start 0))
+module _ (s : List ℕ) (b : Cursor) (all : Read ℕ) (pb : b ≡ start 0) (pa : all ≡ field s true bool 0 b) (one : all.value ≡ 1) where
+  one_read : ◌≡◌ {A = Read ℕ} (record { value = 1; next = all.next }) (field s true bool 1 (start 0))
   unfolding field
   one_read = ap (λ (v : ℕ). record { value = v; next = all.next }) (sym one) ∙ rw pb at pa
 
@@ -116,7 +116,7 @@ module _ (f : Facts) (s name upsampling blending : List ℕ) (before : Refusal) 
       record { answer = er ∙ rw (eb, no, no); named = rw (no, no); upsampled = rw (no, no); blended = rw (no, no) }
 
   -- the header is the bit that says all default
-  pub default_all : before.number ≡ 0 → (b : Cursor) (all : Field) (r : HeaderAnswer) (upsampling' blending' : List ℕ) → b ≡ start 0 → all ≡ field s true bool 0 b → all.value ≡ 1
+  pub default_all : before.number ≡ 0 → (b : Cursor) (all : Read ℕ) (r : HeaderAnswer) (upsampling' blending' : List ℕ) → b ≡ start 0 → all ≡ field s true bool 0 b → all.value ≡ 1
       → Defaulted f all.next.at r upsampling upsampling' blending blending' → Headed f s r name name upsampling upsampling' blending blending'
   unfolding answered
   default_all go b all r upsampling' blending' pb pa one d =
@@ -137,7 +137,7 @@ module _ (f : Facts) (s name upsampling blending : List ℕ) (before : Refusal) 
       yes = rw (← eb) (eq-eqb before.number 0 go)
 
       is : (stands f s).next ≡ b.next
-      is = ap (λ (o : Out Header). o.next) (header_law f s a b w w' x x' fa fb)
+      is = ap (λ (o : Read Header). o.next) (header_law f s a b w w' x x' fa fb)
 
       -- refused while it was read
       pub refused_later : (b.next.fault.number ≡ 0 → ⊥) → (r : HeaderAnswer) → told r ≡ refused_header b.next.fault → Headed f s r name name upsampling upsampling blending blending
@@ -249,10 +249,10 @@ pub header_named : (f : Facts) (s : List ℕ) (a : FrontRead) (b : BackRead) (w 
     → Named a.value b.value
 header_named f s a b w w' x x' fa fb =
     let first : a.value.opening ≡ (read (opening f) s (start 0)).value =
-    ap (λ (v : Front). v.opening) (sym fa.value) ∙ ap (λ (o : Out Begun). o.value.front.opening) (front_read f s (start 0)).is in
+    ap (λ (v : Front). v.opening) (sym fa.value) ∙ ap (λ (o : Read Begun). o.value.front.opening) (front_read f s (start 0)).is in
     let last : b.value.blending ≡ _ =
     ap (λ (v : Back). v.blending) (sym fb.value)
-    ∙ ap (λ (o : Out Ended). o.value.back.blending) (back_read f a.value.opening a.value.placement s a.next).is in
+    ∙ ap (λ (o : Read Ended). o.value.back.blending) (back_read f a.value.opening a.value.placement s a.next).is in
     record {
       type = rw first (opening_named f s (start 0)).0;
       encoding = rw first (opening_named f s (start 0)).1;

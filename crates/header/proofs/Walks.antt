@@ -11,47 +11,46 @@ use borrow.Author.Tests.{lt-ltb, le-ltb, ltb-true, le-leb, lt-leb, leb-true, not
 use lib.ListN.{length, set, take, drop}
 use lib.Seq.{sets, sets-eq, drop-length, take_at}
 use Rattle.fill.proofs.Filling.{Filling, filling_none, filling_more, filling_all}
+use Rattle.bits.specs.declared.Read.{Read}
 use Rattle.bits.specs.declared.Cursor.{Cursor}
 use Rattle.bits.specs.declared.pieces.Piece.{Piece}
-use Rattle.bits.specs.declared.Field.{Field}
 use mathlib.Core.Bool.{Bool, true, false, not, ◌&&◌, false≢true}
 use Rattle.bits.specs.Refusals.{pick, start, clear}
 use Rattle.bits.specs.Bits.{bits_at, bit_count, there}
 use Rattle.bits.specs.Steps.{cut, cut_at, run, piece}
 use Rattle.bits.specs.Codec.{Codec, u, field}
-use Rattle.bits.specs.Table.{Table, ends, Out, read, bind, times}
+use Rattle.bits.specs.Table.{Table, ends, read, bind, times}
 use Rattle.bits.proofs.Bits.{there_parts}
 use Rattle.bits.proofs.Windows.{part_of}
 use Rattle.bits.proofs.Tables.{read_bind}
 use Rattle.bits.proofs.Columns.{times_any}
 use Rattle.bits.proofs.Reading.{field_lt, fault_stays}
 use Rattle.header.specs.declared.blending.Blending.{Blending}
-use Rattle.header.specs.declared.blending.BlendingRead.{BlendingRead}
 use Rattle.header.specs.declared.blending.Decider.{Decider}
 use Rattle.header.specs.Arrays.{element, array}
-use Rattle.header.specs.Private.{Arrayed, Extras, blending_read}
+use Rattle.header.specs.Private.{Arrayed, Extras}
 use Rattle.header.specs.Blending.{blending, words}
 
 -- a table that repeats: its first element, then the others
-pub times_first : {R A : Type 0} (m i : ℕ) (f : ℕ → Table R A) (s : List ℕ) (c : Cursor) (o : Out A) → o ≡ read (f i) s c
-    → ◌≡◌ {A = Out (List A)} (read (times (suc m) i f) s c) (record { value = o.value ∷ (read (times m (suc i) f) s o.next).value; next = (read (times m (suc i) f) s o.next).next })
+pub times_first : {R A : Type 0} (m i : ℕ) (f : ℕ → Table R A) (s : List ℕ) (c : Cursor) (o : Read A) → o ≡ read (f i) s c
+    → ◌≡◌ {A = Read (List A)} (read (times (suc m) i f) s c) (record { value = o.value ∷ (read (times m (suc i) f) s o.next).value; next = (read (times m (suc i) f) s o.next).next })
 unfolding times read
 times_first {A = A} m i f s c o e =
     read_bind (f i) (λ a. bind (times m (suc i) f) λ rest. ends (a ∷ rest)) s c
-    ∙ ap (λ (x : Out A). read (bind (times m (suc i) f) λ rest. ends (x.value ∷ rest)) s x.next) (sym e)
+    ∙ ap (λ (x : Read A). read (bind (times m (suc i) f) λ rest. ends (x.value ∷ rest)) s x.next) (sym e)
     ∙ read_bind (times m (suc i) f) (λ rest. ends (o.value ∷ rest)) s o.next
 
 pub times_length : {R A : Type 0} (m i : ℕ) (f : ℕ → Table R A) (s : List ℕ) (c : Cursor) → length (read (times m i f) s c).value ≡ m
 unfolding times read
 times_length zero i f s c = refl
 times_length {A = A} (suc m) i f s c =
-    ap (λ (o : Out (List A)). length o.value) (times_first m i f s c (read (f i) s c) refl) ∙ ap suc (times_length m (suc i) f s (read (f i) s c).next)
+    ap (λ (o : Read (List A)). length o.value) (times_first m i f s c (read (f i) s c) refl) ∙ ap suc (times_length m (suc i) f s (read (f i) s c).next)
 
 abbrev here : Codec → ℕ → ℕ → ℕ → Table (List ℕ) ℕ
 here k limit d = element k limit d (λ (x : List ℕ) (i : ℕ). 0)
 
-element_is : (k : Codec) (limit d i : ℕ) (s : List ℕ) (c : Cursor) (f : Field) → f ≡ field s (ltb i limit) k d c
-    → ◌≡◌ {A = Out ℕ} (record { value = f.value; next = f.next }) (read (here k limit d i) s c)
+element_is : (k : Codec) (limit d i : ℕ) (s : List ℕ) (c : Cursor) (f : Read ℕ) → f ≡ field s (ltb i limit) k d c
+    → ◌≡◌ {A = Read ℕ} (record { value = f.value; next = f.next }) (read (here k limit d i) s c)
 unfolding element read
 element_is k limit d i s c f e = rw e
 
@@ -68,7 +67,7 @@ module _ (k : Codec) (limit count d : ℕ) (s before : List ℕ) (c : Cursor) wh
       record { within = omega arith; words = rw all (filling_none before 0 _); next = rw all }
 
   module _ (table : List ℕ) (at : Cursor) (i : ℕ) (l : Left k limit count d s before c table at i) where
-    pub left_more : i < count → (f : Field) (v : ℕ) (after : List ℕ) → f ≡ field s (ltb i limit) k d at → v ≡ f.value → after ≡ set table i v
+    pub left_more : i < count → (f : Read ℕ) (v : ℕ) (after : List ℕ) → f ≡ field s (ltb i limit) k d at → v ≡ f.value → after ≡ set table i v
         → Left k limit count d s before c after f.next (i + 1)
     left_more h f v after e ev ea =
         let less : count - i ≡ suc (count - (i + 1)) = omega arith in
@@ -79,7 +78,7 @@ module _ (k : Codec) (limit count d : ℕ) (s before : List ℕ) (c : Cursor) wh
         record {
           within = omega arith;
           words = filling_more before 0 _ table i v rest after left ea;
-          next = l.next ∙ ap (λ (o : Out (List ℕ)). o.next) is ∙ rw (add-one i);
+          next = l.next ∙ ap (λ (o : Read (List ℕ)). o.next) is ∙ rw (add-one i);
         }
 
     pub left_all : count ≤ i → Arrayed k limit count d s c at before table
@@ -109,12 +108,12 @@ words_length (b ∷ bs) =
     let four : suc (suc (suc (suc (4 * length bs)))) ≡ 4 * suc (length bs) = omega arith in
     ap (λ (n : ℕ). suc (suc (suc (suc n)))) (words_length bs) ∙ four
 
-pub byte_lt : (s : List ℕ) (c : Cursor) (f : Field) → f ≡ field s true (u 8) 0 c → f.value < 256
+pub byte_lt : (s : List ℕ) (c : Cursor) (f : Read ℕ) → f ≡ field s true (u 8) 0 c → f.value < 256
 byte_lt s c f e = rw e (field_lt s 8 c)
 
 -- Bytes four at a time: 32 bits that are there are four bytes that are there.
 byte_there : (s : List ℕ) (i limit : ℕ) (c : Cursor) → i < limit → clear c ≡ true → c.at + 8 ≤ bit_count s
-    → ◌≡◌ {A = Field} (record { value = bits_at s c.at 8; next = start (c.at + 8) }) (field s (ltb i limit) (u 8) 0 c)
+    → ◌≡◌ {A = Read ℕ} (record { value = bits_at s c.at 8; next = start (c.at + 8) }) (field s (ltb i limit) (u 8) 0 c)
 unfolding field run
 byte_there s i limit c low ok room = rw (lt-ltb i limit low, ok, le-leb (c.at + 8) (bit_count s) room)
 
@@ -189,17 +188,17 @@ array_any k limit d col col' count i s c = times_any (element k limit d col) (el
 
 -- a table of just count words, after an array of count elements
 pub array_out : {R : Type 0} (k : Codec) (limit count d : ℕ) (col : R → ℕ → ℕ) (s : List ℕ) (c r : Cursor) (before after : List ℕ) → Arrayed k limit count d s c r before after
-    → length before ≡ count → ◌≡◌ {A = Out (List ℕ)} (record { value = after; next = r }) (read (array k limit count d col) s c)
+    → length before ≡ count → ◌≡◌ {A = Read (List ℕ)} (record { value = after; next = r }) (read (array k limit count d col) s c)
 array_out k limit count d col s c r before after a e =
     let none : List ℕ → ℕ → ℕ = λ x i. 0 in
     let o = read (array k limit count d none) s c in
     let whole : sets before 0 o.value ≡ o.value = sets_whole o.value before (times_length count 0 (element k limit d none) s c ∙ sym e) in
     let vals : after ≡ o.value = a.words ∙ whole in
-    let is : ◌≡◌ {A = Out (List ℕ)} (record { value = after; next = r }) o = rw (vals, a.next) in
+    let is : ◌≡◌ {A = Read (List ℕ)} (record { value = after; next = r }) o = rw (vals, a.next) in
     is ∙ array_any k limit d none col count 0 s c
 
 -- one table, then another, from what the first gave
-pub read_then : {R A B : Type 0} (t : Table R A) (f : A → Table R B) (s : List ℕ) (c : Cursor) (o : Out A) → o ≡ read t s c → read (bind t f) s c ≡ read (f o.value) s o.next
+pub read_then : {R A B : Type 0} (t : Table R A) (f : A → Table R B) (s : List ℕ) (c : Cursor) (o : Read A) → o ≡ read t s c → read (bind t f) s c ≡ read (f o.value) s o.next
 read_then t f s c o e = read_bind t f s c ∙ rw (← e)
 
 -- extra channels: after i turns, four words each, what is left to read
@@ -221,14 +220,14 @@ module _ (on : Bool) (n : ℕ) (full : Bool) (d : Decider) (s before : List ℕ)
       record { within = omega arith; content = rw whole (filling_none before 0 _); next = rw whole }
 
   module _ (table : List ℕ) (at : Cursor) (i : ℕ) (l : LeftBlending on n full d s before c table at i) where
-    pub blending_more : i < n → (b : BlendingRead) (t1 t2 t3 t4 : List ℕ) → b ≡ blending_read (read (blending on true full d) s at)
+    pub blending_more : i < n → (b : Read Blending) (t1 t2 t3 t4 : List ℕ) → b ≡ (read (blending on true full d) s at)
         → t1 ≡ set table (i * 4) b.value.mode → t2 ≡ set t1 (i * 4 + 1) b.value.alpha_channel → t3 ≡ set t2 (i * 4 + 2) b.value.clamp → t4 ≡ set t3 (i * 4 + 3) b.value.source
         → LeftBlending on n full d s before c t4 b.next (i + 1)
     unfolding words
     blending_more h b t1 t2 t3 t4 e e1 e2 e3 e4 =
         let less : n - i ≡ suc (n - (i + 1)) = omega arith in
-        let o : Out Blending = record { value = b.value; next = b.next } in
-        let eo : o ≡ read (blending on true full d) s at = ap (λ (r : BlendingRead). record { value = r.value; next = r.next }) e in
+        let o : Read Blending = record { value = b.value; next = b.next } in
+        let eo : o ≡ read (blending on true full d) s at = ap (λ (r : Read Blending). record { value = r.value; next = r.next }) e in
         let is = ap (λ (m : ℕ). read (times m i (each on full d)) s at) less ∙ times_first (n - (i + 1)) i (each on full d) s at o eo in
         let after = words (read (times (n - (i + 1)) (i + 1) (each on full d)) s b.next).value in
         let v = b.value in
@@ -241,7 +240,7 @@ module _ (on : Bool) (n : ℕ) (full : Bool) (d : Decider) (s before : List ℕ)
         let f2 = filling_more before 0 all t1 (j + 1) v.alpha_channel _ t2 f1 e2 in
         let f3 = filling_more before 0 all t2 (j + 1 + 1) v.clamp _ t3 f2 (e3 ∙ ap (λ (k : ℕ). set t2 k v.clamp) two) in
         let f4 = filling_more before 0 all t3 (j + 1 + 1 + 1) v.source after t4 f3 (e4 ∙ ap (λ (k : ℕ). set t3 k v.source) three) in
-        record { within = omega arith; content = rw turn at f4; next = l.next ∙ ap (λ (o : Out (List Blending)). o.next) is ∙ rw (add-one i) }
+        record { within = omega arith; content = rw turn at f4; next = l.next ∙ ap (λ (o : Read (List Blending)). o.next) is ∙ rw (add-one i) }
 
     pub blending_all : n ≤ i → Extras on n full d s c at before table
     unfolding times read words
@@ -256,7 +255,7 @@ module _ (on : Bool) (n : ℕ) (full : Bool) (d : Decider) (s before : List ℕ)
 abbrev pub byte_cut : List ℕ → ℕ → Cursor
 byte_cut s p = (cut_at s p (p + 8)).next
 
-abbrev cut_out : List ℕ → ℕ → Out ℕ
+abbrev cut_out : List ℕ → ℕ → Read ℕ
 cut_out s p = record { value = 0; next = byte_cut s p }
 
 cut_held : (s : List ℕ) (p : ℕ) → clear (byte_cut s p) ≡ false
@@ -276,8 +275,8 @@ module _ (s : List ℕ) (limit : ℕ) where
   unfolding element read field run
   no_byte i c low ok t = rw (lt-ltb i limit low, ok, t)
 
-  after : (n i : ℕ) (c : Cursor) (o : Out ℕ) → o ≡ read (byte i) s c → (read (times (suc n) i byte) s c).next ≡ (read (times n (suc i) byte) s o.next).next
-  after n i c o e = ap (λ (x : Out (List ℕ)). x.next) (times_first n i byte s c o e)
+  after : (n i : ℕ) (c : Cursor) (o : Read ℕ) → o ≡ read (byte i) s c → (read (times (suc n) i byte) s c).next ≡ (read (times n (suc i) byte) s o.next).next
+  after n i c o e = ap (λ (x : Read (List ℕ)). x.next) (times_first n i byte s c o e)
 
   -- all are there
   bytes_there : (n i p : ℕ) → i + n ≤ limit → p + 8 * n ≤ bit_count s → (read (times n i byte) s (start p)).next ≡ start (p + 8 * n)

@@ -1,9 +1,10 @@
 -- The entry: what it refuses, what it answers, and what the lent buffers hold after it.
 use Rattle.std.specs.Prelude.{ℕ, ◌*◌, ◌≡◌, Bool, ◌||◌, List, ltb, eqb, length}
 use Rattle.std.proofs.lemmas.List.Edits.{sets}
+use Rattle.bits.specs.declared.Read.{Read}
 use Rattle.bits.specs.declared.Refusal.{Refusal}
 use Rattle.bits.specs.Refusals.{pick, refusal, none, start}
-use Rattle.bits.specs.Table.{Out, read}
+use Rattle.bits.specs.Table.{read}
 use Rattle.header.specs.declared.Facts.{Facts}
 use Rattle.header.specs.declared.entry.HeaderAnswer.{HeaderAnswer}
 use Rattle.header.specs.Blending.{words}
@@ -24,11 +25,11 @@ judged n f name upsampling blending =
     pick (ltb 16777216 n) (refusal 2 0) (pick (bad_facts f) (refusal 1 0) (pick (no_room f name upsampling blending) (refusal 3 0) none))
 
 -- the header that stands in the bytes
-abbrev pub stands : Facts → List ℕ → Out Header
+abbrev pub stands : Facts → List ℕ → Read Header
 stands f s = read (header f) s (start 0)
 
 -- then the first fault in reading order
-abbrev pub refusal_of : Refusal → Out Header → Refusal
+abbrev pub refusal_of : Refusal → Read Header → Refusal
 refusal_of before h = pick (eqb before.number 0) h.next.fault before
 
 -- what an answer says, its enums by their numbers
@@ -44,14 +45,14 @@ unfoldable pub refused_header : Refusal → HeaderTold
 refused_header r = record { header = zero_header; end = 0; refusal = r }
 
 -- the record and the place after the last field, or the refusal beside the zero record
-unfoldable pub answered : Facts → Refusal → Out Header → HeaderTold
+unfoldable pub answered : Facts → Refusal → Read Header → HeaderTold
 answered f before h =
     pick (eqb (refusal_of before h).number 0)
     (record { header = header_of f h.value.front h.value.back; end = h.next.at; refusal = none })
     (refused_header (refusal_of before h))
 
 -- a lent buffer: its first places hold what was read, the others stay; on a refusal all stay
-abbrev pub buffer_after : Refusal → Out Header → List ℕ → List ℕ → List ℕ
+abbrev pub buffer_after : Refusal → Read Header → List ℕ → List ℕ → List ℕ
 buffer_after before h new buffer = pick (eqb (refusal_of before h).number 0) (sets buffer 0 new) buffer
 
 -- what the entry promises: its answer, and every lent buffer

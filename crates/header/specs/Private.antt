@@ -1,6 +1,7 @@
 -- What private functions promise: parts of a header on their way to the entry. Nothing that a caller is promised names these.
 use Rattle.std.specs.Prelude.{ℕ, ◌*◌, ◌≤◌, ◌<◌, ◌≡◌, Bool, true, not, List, eqb, length, replicate, take}
 use Rattle.std.proofs.lemmas.List.Edits.{sets}
+use Rattle.bits.specs.declared.Read.{Read}
 use Rattle.bits.specs.declared.Choices.{Choices}
 use Rattle.bits.specs.declared.Cursor.{Cursor}
 use Rattle.bits.specs.declared.view.View.{View}
@@ -8,7 +9,7 @@ use Rattle.bits.specs.declared.view.Seen.{Seen}
 use Rattle.bits.specs.Refusals.{none, start, pick}
 use Rattle.bits.specs.View.{seen, seen_choice}
 use Rattle.bits.specs.Codec.{Codec, u, u32, val, plus, one_of, chosen}
-use Rattle.bits.specs.Table.{Table, times, read, Out}
+use Rattle.bits.specs.Table.{Table, times, read}
 use Rattle.header.specs.declared.Facts.{Facts}
 use Rattle.header.specs.declared.opening.Opening.{Opening}
 use Rattle.header.specs.declared.shape.Placement.{Placement}
@@ -26,35 +27,10 @@ use Rattle.header.specs.Closing.{closing}
 use Rattle.header.specs.Header.{sent_upsampling, sends_blending, no_blending, front, back}
 use Rattle.header.specs.Record.{header_of}
 use Rattle.header.specs.Entry.{told}
-use Rattle.header.specs.declared.blending.BlendingRead.{BlendingRead}
 use Rattle.header.specs.declared.closing.Closing.{Closing}
-use Rattle.header.specs.declared.closing.ClosingRead.{ClosingRead}
-use Rattle.header.specs.declared.opening.OpeningRead.{OpeningRead}
 use Rattle.header.specs.declared.shape.Passes.{Passes}
-use Rattle.header.specs.declared.shape.PassesRead.{PassesRead}
 use Rattle.header.specs.declared.shape.Scales.{Scales}
-use Rattle.header.specs.declared.shape.ScalesRead.{ScalesRead}
-use Rattle.header.specs.declared.shape.PlacementRead.{PlacementRead}
 use Rattle.filter.specs.Filter.{filter_default}
-
--- what was read of a bundle, and the cursor after it
-abbrev pub blending_read : Out Blending → BlendingRead
-blending_read o = record { value = o.value; next = o.next }
-
-abbrev pub closing_read : Out Closing → ClosingRead
-closing_read o = record { value = o.value; next = o.next }
-
-abbrev pub opening_read : Out Opening → OpeningRead
-opening_read o = record { value = o.value; next = o.next }
-
-abbrev pub passes_read : Out Passes → PassesRead
-passes_read o = record { value = o.value; next = o.next }
-
-abbrev pub scales_read : Out Scales → ScalesRead
-scales_read o = record { value = o.value; next = o.next }
-
-abbrev pub placement_read : Out Placement → PlacementRead
-placement_read o = record { value = o.value; next = o.next }
 
 -- A header whose first bit says all default: every field has its default. A regular VarDCT frame of one pass, group size shift 1, as large as the
 -- image

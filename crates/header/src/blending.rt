@@ -3,12 +3,12 @@ ghost use Rattle.std.specs.Prelude.{◌≡◌, eqb};
 ghost use Rattle.bits.specs.Refusals.{pick};
 ghost use Rattle.bits.specs.Codec.{val, plus};
 ghost use Rattle.bits.specs.Table.{read};
-ghost use Rattle.header.specs.Private.{seen_small, Extras, blending_read};
+ghost use Rattle.header.specs.Private.{seen_small, Extras};
 ghost use Rattle.header.specs.Blending.{modes, alphas, covers_side, covers_image, source_decider, has_source, blending};
 
 use crate::Facts;
 use crate::shape::Placement;
-use bits::{
+use bits::{Read, 
     Choice, Choices, Cursor, Seen, View, begin, both, either, idle, kept, look_ahead, one_of,
     read_bits_if, read_bool_if, see, see_choice,
 };
@@ -31,12 +31,6 @@ pub struct Blending {
     pub alpha_channel: u32,
     pub clamp: u32,
     pub source: u32,
-}
-
-#[derive(Clone, Copy)]
-pub struct BlendingRead {
-    pub value: Blending,
-    pub next: Cursor,
 }
 
 // Which mode decides on `source`: the bundle's own, or one that is given.
@@ -124,8 +118,8 @@ fn read_blending_fields(
     extra: bool,
     full: bool,
     d: Decider,
-) -> BlendingRead
-    ensures { result ≡ blending_read (read (blending on extra full d) s.now c) }
+) -> Read<Blending>
+    ensures { result ≡ read (blending on extra full d) s.now c }
 {
     let m = read_enum_if(s, c, on, mode_choices(), 5, 0);
     let alpha = both(extra, either(m.value == 2, m.value == 3));
@@ -134,7 +128,7 @@ fn read_blending_fields(
     let source = both(on, has_source(d, m.value, full));
     let x = read_bits_if(s, k.next, source, 2, 0);
     let next = x.next;
-    BlendingRead {
+    Read {
         value: Blending {
             mode: m.value,
             alpha_channel: a.value,
@@ -154,8 +148,8 @@ pub fn read_blending_if(
     extra: bool,
     full: bool,
     d: Decider,
-) -> BlendingRead
-    ensures { result ≡ blending_read (read (blending on extra full d) s.now c) }
+) -> Read<Blending>
+    ensures { result ≡ read (blending on extra full d) s.now c }
 {
     if !idle(c, on) {
         let at = c.at;
@@ -176,7 +170,7 @@ pub fn read_blending_if(
                 let x = see(k.rest, has_source(d, m.value, full), 2);
                 let rest = x.rest;
                 let next = begin(rest.at);
-                return BlendingRead {
+                return Read {
                     value: Blending {
                         mode: m.value,
                         alpha_channel: a.value,

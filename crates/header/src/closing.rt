@@ -2,12 +2,11 @@
 ghost use Rattle.std.specs.Prelude.{◌≡◌};
 ghost use Rattle.bits.specs.Table.{read};
 ghost use Rattle.header.specs.Closing.{durations, name_lengths, closing};
-ghost use Rattle.header.specs.Private.{closing_read};
 
 use crate::Facts;
 use crate::opening::Opening;
 use crate::shape::either_number;
-use bits::{Choices, Cursor, both, either, one_of, read_bits_if, read_bool_if};
+use bits::{Read, Choices, Cursor, both, either, one_of, read_bits_if, read_bool_if};
 use numbers::read_u32_if;
 
 #[derive(Clone, Copy)]
@@ -18,12 +17,6 @@ pub struct Closing {
     pub save_as_reference: u32,
     pub save_before_ct: u32,
     pub name_length: u32,
-}
-
-#[derive(Clone, Copy)]
-pub struct ClosingRead {
-    pub value: Closing,
-    pub next: Cursor,
 }
 
 // U32(0, 1, u(8), u(32))
@@ -40,8 +33,8 @@ fn name_choices() -> Choices
     one_of(0, 0, 0, 4, 16, 5, 48, 10)
 }
 
-pub fn read_closing(s: &[u8], c: Cursor, f: Facts, o: Opening, resets: bool) -> ClosingRead
-    ensures { result ≡ closing_read (read (closing f o resets) s.now c) }
+pub fn read_closing(s: &[u8], c: Cursor, f: Facts, o: Opening, resets: bool) -> Read<Closing>
+    ensures { result ≡ read (closing f o resets) s.now c }
 {
     let on = o.all_default == 0;
     let kind = o.frame_type;
@@ -63,7 +56,7 @@ pub fn read_closing(s: &[u8], c: Cursor, f: Facts, o: Opening, resets: bool) -> 
     );
     let name = read_u32_if(s, ct.next, on, name_choices(), 0);
     let next = name.next;
-    ClosingRead {
+    Read {
         value: Closing {
             duration: duration.value,
             timecode: timecode.value,

@@ -2,10 +2,9 @@
 ghost use Rattle.std.specs.Prelude.{◌≡◌};
 ghost use Rattle.bits.specs.Table.{read};
 ghost use Rattle.header.specs.Opening.{opening, upsamplings};
-ghost use Rattle.header.specs.Private.{opening_read};
 
 use crate::Facts;
-use bits::{Choices, Cursor, both, one_of, read_bits_if, read_bool_if};
+use bits::{Read, Choices, Cursor, both, one_of, read_bits_if, read_bool_if};
 use numbers::{read_u32_if, read_u64_if};
 use types::FrameFlags;
 
@@ -22,12 +21,6 @@ pub struct Opening {
     pub upsampling: u32,
 }
 
-#[derive(Clone, Copy)]
-pub struct OpeningRead {
-    pub value: Opening,
-    pub next: Cursor,
-}
-
 // U32(1, 2, 4, 8)
 pub fn upsampling_choices() -> Choices
     ensures { result ≡ upsamplings }
@@ -35,8 +28,8 @@ pub fn upsampling_choices() -> Choices
     one_of(1, 0, 2, 0, 4, 0, 8, 0)
 }
 
-pub fn read_opening(s: &[u8], c: Cursor, f: Facts) -> OpeningRead
-    ensures { result ≡ opening_read (read (opening f) s.now c) }
+pub fn read_opening(s: &[u8], c: Cursor, f: Facts) -> Read<Opening>
+    ensures { result ≡ read (opening f) s.now c }
 {
     let all = read_bool_if(s, c, true, 1);
     let on = all.value == 0;
@@ -51,7 +44,7 @@ pub fn read_opening(s: &[u8], c: Cursor, f: Facts) -> OpeningRead
     let j2 = read_bits_if(s, j1.next, jpeg, 2, 0);
     let up = read_u32_if(s, j2.next, both(on, !lf), upsampling_choices(), 1);
     let next = up.next;
-    OpeningRead {
+    Read {
         value: Opening {
             all_default: all.value,
             frame_type: kind.value,

@@ -3,12 +3,11 @@ ghost use Rattle.std.specs.Prelude.{◌≡◌, ◌-◌};
 ghost use Rattle.bits.specs.Refusals.{pick};
 ghost use Rattle.bits.specs.Table.{read};
 ghost use Rattle.header.specs.Shape.{pass_counts, downsamples, last_passes, places, passes, scales, placement};
-ghost use Rattle.header.specs.Private.{passes_read, scales_read, placement_read};
 
 use crate::Facts;
 use crate::arrays::{read_bits_array, read_u32_array};
 use crate::opening::{Opening, upsampling_choices};
-use bits::{Choices, Cursor, both, one_of, read_bits_if, read_bool_if};
+use bits::{Read, Choices, Cursor, both, one_of, read_bits_if, read_bool_if};
 use numbers::read_u32_if;
 
 #[derive(Clone, Copy)]
@@ -20,24 +19,12 @@ pub struct Passes {
     pub last_pass: [u32; 4],
 }
 
-#[derive(Clone, Copy)]
-pub struct PassesRead {
-    pub value: Passes,
-    pub next: Cursor,
-}
-
 // The group size and the quantizer scales.
 #[derive(Clone, Copy)]
 pub struct Scales {
     pub group_size_shift: u32,
     pub x_qm_scale: u32,
     pub b_qm_scale: u32,
-}
-
-#[derive(Clone, Copy)]
-pub struct ScalesRead {
-    pub value: Scales,
-    pub next: Cursor,
 }
 
 // The level of an LF frame, and where a frame lies; x0 and y0 as they are read, unsigned.
@@ -49,12 +36,6 @@ pub struct Placement {
     pub y0: u32,
     pub width: u32,
     pub height: u32,
-}
-
-#[derive(Clone, Copy)]
-pub struct PlacementRead {
-    pub value: Placement,
-    pub next: Cursor,
 }
 
 // One less, and 0 for 0.
@@ -100,8 +81,8 @@ fn place_choices() -> Choices
 }
 
 // The bundle `Passes`.
-pub fn read_passes_if(s: &[u8], c: Cursor, on: bool) -> PassesRead
-    ensures { result ≡ passes_read (read (passes on) s.now c) }
+pub fn read_passes_if(s: &[u8], c: Cursor, on: bool) -> Read<Passes>
+    ensures { result ≡ read (passes on) s.now c }
 {
     let n = read_u32_if(s, c, on, pass_choices(), 1);
     let several = n.value != 1;
@@ -113,7 +94,7 @@ pub fn read_passes_if(s: &[u8], c: Cursor, on: bool) -> PassesRead
     let a = read_bits_array(s, ds.next, shifts, 10, 2, 0, &mut shift);
     let b = read_u32_array(s, a, ds.value, 4, upsampling_choices(), 0, &mut downsample);
     let next = read_u32_array(s, b, ds.value, 4, last_pass_choices(), 0, &mut last_pass);
-    PassesRead {
+    Read {
         value: Passes {
             num_passes: n.value,
             num_ds: ds.value,
@@ -125,8 +106,8 @@ pub fn read_passes_if(s: &[u8], c: Cursor, on: bool) -> PassesRead
     }
 }
 
-pub fn read_scales(s: &[u8], c: Cursor, f: Facts, o: Opening) -> ScalesRead
-    ensures { result ≡ scales_read (read (scales f o) s.now c) }
+pub fn read_scales(s: &[u8], c: Cursor, f: Facts, o: Opening) -> Read<Scales>
+    ensures { result ≡ read (scales f o) s.now c }
 {
     let modular = o.encoding == 1;
     let xyb = both(f.xyb, o.encoding == 0);
@@ -135,7 +116,7 @@ pub fn read_scales(s: &[u8], c: Cursor, f: Facts, o: Opening) -> ScalesRead
     let x = read_bits_if(s, shift.next, scaled, 3, either_number(xyb, 3, 2));
     let b = read_bits_if(s, x.next, scaled, 3, 2);
     let next = b.next;
-    ScalesRead {
+    Read {
         value: Scales {
             group_size_shift: shift.value,
             x_qm_scale: x.value,
@@ -145,8 +126,8 @@ pub fn read_scales(s: &[u8], c: Cursor, f: Facts, o: Opening) -> ScalesRead
     }
 }
 
-pub fn read_placement(s: &[u8], c: Cursor, f: Facts, o: Opening) -> PlacementRead
-    ensures { result ≡ placement_read (read (placement f o) s.now c) }
+pub fn read_placement(s: &[u8], c: Cursor, f: Facts, o: Opening) -> Read<Placement>
+    ensures { result ≡ read (placement f o) s.now c }
 {
     let is_lf = o.frame_type == 1;
     let level = read_bits_if(s, c, is_lf, 2, 0);
@@ -159,7 +140,7 @@ pub fn read_placement(s: &[u8], c: Cursor, f: Facts, o: Opening) -> PlacementRea
     let w = read_u32_if(s, y.next, crop, place_choices(), f.width);
     let h = read_u32_if(s, w.next, crop, place_choices(), f.height);
     let next = h.next;
-    PlacementRead {
+    Read {
         value: Placement {
             lf_level,
             have_crop: cropped.value,

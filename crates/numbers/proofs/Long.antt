@@ -2,16 +2,16 @@
 use Rattle.std.proofs.Common.{◌≡◌, ℕ, zero, suc, ◌+◌, ◌-◌, ◌*◌, ◌/◌, ◌%◌, ◌^◌, ◌<◌, ◌≤◌, true, false, not, List, sym, ap, ◌∙◌, add_comm, arith, pow-add, shl_exact, eq-eqb, ne_eqb}
 use lib.Arith.{digits_lt}
 use lib.Bits.{bit_or, or_shifted_r}
+use Rattle.bits.specs.declared.Read.{Read}
 use Rattle.bits.specs.declared.pieces.Piece.{Piece}
 use Rattle.bits.specs.declared.Cursor.{Cursor}
-use Rattle.bits.specs.declared.Wide.{Wide}
 use Rattle.bits.specs.Refusals.{start}
 use Rattle.bits.specs.Steps.{gives, takes, cut_at, run, piece}
-use Rattle.bits.specs.Codec.{more, long, wide_of}
+use Rattle.bits.specs.Codec.{more, long}
 use Rattle.bits.proofs.Steps.{run_take, run_cut, piece_lt}
 
 -- a wide field of which something was read
-pub wide_given : (s : List ℕ) (p q v w : ℕ) (b : Cursor) → w ≡ v → b ≡ start q → ◌≡◌ {A = Wide} (record { value = w; next = b }) (wide_of (run (gives v) s p q))
+pub wide_given : (s : List ℕ) (p q v w : ℕ) (b : Cursor) → w ≡ v → b ≡ start q → ◌≡◌ {A = Read ℕ} (record { value = w; next = b }) ((run (gives v) s p q))
 unfolding run
 wide_given s p q v w b ew eb = rw (ew, eb)
 

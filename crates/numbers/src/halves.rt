@@ -3,14 +3,14 @@ ghost use Rattle.std.specs.Prelude.{◌≡◌};
 ghost use Rattle.bits.specs.Codec.{f16, field};
 ghost use Rattle.bits.specs.Half.{half};
 
-use bits::{Cursor, Field, begin, cut_at, idle, kept, refused_at, take};
+use bits::{Read, Cursor, begin, cut_at, idle, kept, refused_at, take};
 
 // An f16 where it is asked for, as its pattern; exponent 31 is refused.
-pub fn read_f16_if(s: &[u8], c: Cursor, on: bool, default: u32) -> Field
+pub fn read_f16_if(s: &[u8], c: Cursor, on: bool, default: u32) -> Read<u32>
     ensures { result ≡ field s.now on f16 default c }
 {
     if idle(c, on) {
-        return Field {
+        return Read {
             value: default,
             next: kept(c),
         };
@@ -23,7 +23,7 @@ pub fn read_f16_if(s: &[u8], c: Cursor, on: bool, default: u32) -> Field
     if (x.value >> 10) & 31 == 31 {
         refused_at(6, at)
     } else {
-        Field {
+        Read {
             value: x.value,
             next: begin(x.at),
         }

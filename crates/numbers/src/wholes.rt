@@ -3,10 +3,10 @@ ghost use Rattle.std.specs.Prelude.{◌≡◌, ◌+◌, ◌*◌, ◌^◌, ◌<�
 ghost use Rattle.bits.specs.Bits.{there, ahead};
 ghost use Rattle.bits.specs.Refusals.{pick};
 ghost use Rattle.bits.specs.Steps.{run, gives, takes, cut_at};
-ghost use Rattle.bits.specs.Codec.{u32, cases, u64, chosen, more, long, field, wide_of, signed};
+ghost use Rattle.bits.specs.Codec.{u32, cases, u64, chosen, more, long, field, signed};
 
 use bits::{
-    Choice, Choices, Cursor, Field, Wide, begin, cut_at, idle, kept, look_ahead, low_bits, reaches,
+    Choice, Choices, Cursor, Read<u32>, Read<u64>, begin, cut_at, idle, kept, look_ahead, low_bits, reaches,
     refused_at, take,
 };
 
@@ -35,7 +35,7 @@ fn u32_is_there(s: &[u8], p: u64, n: u32, whole: bool) -> bool
 }
 
 // A U32 that isn't there: its selector is cut, or the n bits after it.
-fn cut_u32(s: &[u8], p: u64, n: u32) -> Field
+fn cut_u32(s: &[u8], p: u64, n: u32) -> Read<u32>
     ensures { result ≡ pick (there s.now p 2) (cut_at s.now p (p + 2 + n)) (cut_at s.now p (p + 2)) }
 {
     if reaches(s, p, 2) {
@@ -46,11 +46,11 @@ fn cut_u32(s: &[u8], p: u64, n: u32) -> Field
 }
 
 // U32 where it is asked for: the selector, then its choice. Both lie in the 56 bits ahead.
-pub fn read_u32_if(s: &[u8], c: Cursor, on: bool, d: Choices, default: u32) -> Field
+pub fn read_u32_if(s: &[u8], c: Cursor, on: bool, d: Choices, default: u32) -> Read<u32>
     ensures { result ≡ field s.now on (u32 d) default c }
 {
     if idle(c, on) {
-        return Field {
+        return Read {
             value: default,
             next: kept(c),
         };
@@ -61,24 +61,24 @@ pub fn read_u32_if(s: &[u8], c: Cursor, on: bool, d: Choices, default: u32) -> F
     if !u32_is_there(s, at, e.bits, a.whole) {
         return cut_u32(s, at, e.bits);
     }
-    Field {
+    Read {
         value: std::num::wrapping_add_u32(e.base, low_bits(a.bits >> 2, e.bits)),
         next: begin(at + 2 + (e.bits as u64)),
     }
 }
 
-pub fn read_u32(s: &[u8], c: Cursor, d: Choices) -> Field
+pub fn read_u32(s: &[u8], c: Cursor, d: Choices) -> Read<u32>
     ensures { result ≡ field s.now true (u32 d) 0 c }
 {
     read_u32_if(s, c, true, d, 0)
 }
 
 // A U32 that names one of n cases, where it is asked for.
-pub fn read_enum_if(s: &[u8], c: Cursor, on: bool, d: Choices, n: u32, default: u32) -> Field
+pub fn read_enum_if(s: &[u8], c: Cursor, on: bool, d: Choices, n: u32, default: u32) -> Read<u32>
     ensures { result ≡ field s.now on (cases d n) default c }
 {
     if idle(c, on) {
-        return Field {
+        return Read {
             value: default,
             next: kept(c),
         };
@@ -93,39 +93,39 @@ pub fn read_enum_if(s: &[u8], c: Cursor, on: bool, d: Choices, n: u32, default: 
 }
 
 // A U64 that begins at p and whose piece of n bits from q on is cut.
-fn wide_cut(s: &[u8], p: u64, q: u64, n: u32) -> Wide
-    ensures { result ≡ wide_of (cut_at s.now p (q + n)) }
+fn wide_cut(s: &[u8], p: u64, q: u64, n: u32) -> Read<u64>
+    ensures { result ≡ cut_at s.now p (q + n) }
 {
     let f = cut_at(s, p, q, n);
     let next = f.next;
-    Wide { value: 0, next }
+    Read { value: 0, next }
 }
 
 // A U64 of one piece: base + u(n), begun at p, now at q.
-fn short(s: &[u8], p: u64, q: u64, n: u32, base: u32) -> Wide
-    ensures { result ≡ wide_of (run (takes n (λ x. gives (base + x))) s.now p q) }
+fn short(s: &[u8], p: u64, q: u64, n: u32, base: u32) -> Read<u64>
+    ensures { result ≡ run (takes n (λ x. gives (base + x))) s.now p q }
 {
     let x = take(s, q, n);
     if !x.there {
         return wide_cut(s, p, q, n);
     }
-    Wide {
+    Read {
         value: (base as u64) + (x.value as u64),
         next: begin(x.at),
     }
 }
 
 // The end of a long U64, which stands at shift 60: a bit, and where it is one u(4).
-fn last(s: &[u8], p: u64, q: u64, v: u64) -> Wide
+fn last(s: &[u8], p: u64, q: u64, v: u64) -> Read<u64>
     requires { v < 2 ^ 60 }
-    ensures { result ≡ wide_of (run (more 0 v) s.now p q) }
+    ensures { result ≡ run (more 0 v) s.now p q }
 {
     let b = take(s, q, 1);
     if !b.there {
         return wide_cut(s, p, q, 1);
     }
     if b.value == 0 {
-        return Wide {
+        return Read {
             value: v,
             next: begin(b.at),
         };
@@ -134,15 +134,15 @@ fn last(s: &[u8], p: u64, q: u64, v: u64) -> Wide
     if !x.there {
         return wide_cut(s, p, b.at, 4);
     }
-    Wide {
+    Read {
         value: v | ((x.value as u64) << 60),
         next: begin(x.at),
     }
 }
 
 // A long U64: u(12), then while a one bit follows u(8) at shift 12 to 52.
-fn longer(s: &[u8], p: u64, q: u64) -> Wide
-    ensures { result ≡ wide_of (run (takes 12 (more 6)) s.now p q) }
+fn longer(s: &[u8], p: u64, q: u64) -> Read<u64>
+    ensures { result ≡ run (takes 12 (more 6)) s.now p q }
 {
     let x = take(s, q, 12);
     if !x.there {
@@ -157,7 +157,7 @@ fn longer(s: &[u8], p: u64, q: u64) -> Wide
             return wide_cut(s, p, at, 1);
         }
         if b.value == 0 {
-            return Wide {
+            return Read {
                 value: v,
                 next: begin(b.at),
             };
@@ -174,11 +174,11 @@ fn longer(s: &[u8], p: u64, q: u64) -> Wide
 }
 
 // U64 where it is asked for.
-pub fn read_u64_if(s: &[u8], c: Cursor, on: bool, default: u64) -> Wide
-    ensures { result ≡ wide_of (field s.now on u64 default c) }
+pub fn read_u64_if(s: &[u8], c: Cursor, on: bool, default: u64) -> Read<u64>
+    ensures { result ≡ field s.now on u64 default c }
 {
     if idle(c, on) {
-        return Wide {
+        return Read {
             value: default,
             next: kept(c),
         };
@@ -189,7 +189,7 @@ pub fn read_u64_if(s: &[u8], c: Cursor, on: bool, default: u64) -> Wide
         return wide_cut(s, at, at, 2);
     }
     if k.value == 0 {
-        return Wide {
+        return Read {
             value: 0,
             next: begin(k.at),
         };
@@ -203,8 +203,8 @@ pub fn read_u64_if(s: &[u8], c: Cursor, on: bool, default: u64) -> Wide
     longer(s, at, k.at)
 }
 
-pub fn read_u64(s: &[u8], c: Cursor) -> Wide
-    ensures { result ≡ wide_of (field s.now true u64 0 c) }
+pub fn read_u64(s: &[u8], c: Cursor) -> Read<u64>
+    ensures { result ≡ field s.now true u64 0 c }
 {
     read_u64_if(s, c, true, 0)
 }

@@ -2,7 +2,7 @@
 // tools/vectors/bits.py wrote both files; it says where the vectors come from and what a record holds.
 #![tactic(auto)]
 
-use bits::{Choice, Choices, Cursor, Field, Sum};
+use bits::{Read, Choice, Choices, Cursor, Sum};
 use replay::Output;
 use std::io;
 
@@ -87,7 +87,7 @@ fn choices(r: &[u8]) -> Choices {
     }
 }
 
-fn field(out: &mut Output, f: Field) {
+fn field(out: &mut Output, f: Read<u32>) {
     replay::show(out, f.value as u64);
     cursor(out, f.next);
 }

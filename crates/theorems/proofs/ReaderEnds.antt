@@ -7,21 +7,21 @@ use mathlib.Core.List.{List, [], ◌∷◌}
 use mathlib.Core.Bool.{Bool, true, ◌&&◌}
 use lib.Dec.{eqb}
 use lib.Ieee.{Float}
+use Rattle.bits.specs.declared.Read.{Read}
 use Rattle.bits.specs.declared.Cursor.{Cursor}
-use Rattle.bits.specs.declared.Field.{Field}
 use Rattle.bits.specs.declared.Choices.{Choices}
 use Rattle.bits.specs.declared.Sum.{Sum}
 use Rattle.bits.specs.Refusals.{clear}
 use Rattle.bits.specs.Bits.{bits_at, bit_count}
 use Rattle.bits.specs.Steps.{Steps, gives, refuses, cut, run}
-use Rattle.bits.specs.Codec.{u, bool, u32, cases, u64, f16, padding, skip, steps, wide_of, field}
+use Rattle.bits.specs.Codec.{u, bool, u32, cases, u64, f16, padding, skip, steps, field}
 use Rattle.bits.specs.Table.{ends, fails, failed, read}
 use Rattle.bits.specs.Extensions.{whole, extensions}
 use Rattle.bits.proofs.Reading.{padding_there, of_both}
 use Rattle.filter.specs.Values.{float, floats}
-use Rattle.filter.specs.Gabor.{channel, gabor, gabor_read}
-use Rattle.filter.specs.Epf.{sharp, scale, sigma, epf, epf_read}
-use Rattle.filter.specs.Filter.{restoration, filter_read}
+use Rattle.filter.specs.Gabor.{channel, gabor}
+use Rattle.filter.specs.Epf.{sharp, scale, sigma, epf}
+use Rattle.filter.specs.Filter.{restoration}
 use Rattle.theorems.specs.Refusing.{among, rules, placed, Refuses, Hands, of_bits, of_enum, of_padding, of_half, of_filter}
 use Rattle.theorems.proofs.Refusing.{refuses_none, refuses_with}
 use Rattle.theorems.proofs.Readers.{Own, own_bind, own_inside, own_times, own_extensions, own_more, read_hands, field_hands}
@@ -56,7 +56,7 @@ pub zero_pad_within : (s : List ℕ) (c : Cursor) → c.at ≤ bit_count s
     → ((field s true padding 0 c).next.fault ≡ c.fault) ⊎ Refuses (12 ∷ []) (bit_count s) (field s true padding 0 c).next.fault
 unfolding field
 zero_pad_within s c i =
-    of_both (λ (r : Field). (r.next.fault ≡ c.fault) ⊎ Refuses (12 ∷ []) (bit_count s) r.next.fault) (true && clear c)
+    of_both (λ (r : Read ℕ). (r.next.fault ≡ c.fault) ⊎ Refuses (12 ∷ []) (bit_count s) r.next.fault) (true && clear c)
     (run (steps padding c.at) s c.at c.at) (record { value = 0; next = c })
     (inr (padded s c.at i)) (inl refl)
 
@@ -79,10 +79,10 @@ read_u32 s c k = read_u32_if s c true k 0
 pub read_enum_if : (s : List ℕ) (c : Cursor) (on : Bool) (k : Choices) (n d : ℕ) → Hands of_enum s c (field s on (cases k n) d c).next
 read_enum_if s c on k n d = field_hands of_enum refl s on (cases k n) d c refl
 
-pub read_u64_if : (s : List ℕ) (c : Cursor) (on : Bool) (d : ℕ) → Hands of_bits s c (wide_of (field s on u64 d c)).next
+pub read_u64_if : (s : List ℕ) (c : Cursor) (on : Bool) (d : ℕ) → Hands of_bits s c ((field s on u64 d c)).next
 read_u64_if s c on d = field_hands of_bits refl s on u64 d c refl
 
-pub read_u64 : (s : List ℕ) (c : Cursor) → Hands of_bits s c (wide_of (field s true u64 0 c)).next
+pub read_u64 : (s : List ℕ) (c : Cursor) → Hands of_bits s c ((field s true u64 0 c)).next
 read_u64 s c = read_u64_if s c true 0
 
 pub read_f16_if : (s : List ℕ) (c : Cursor) (on : Bool) (d : ℕ) → Hands of_half s c (field s on f16 d c).next
@@ -164,12 +164,12 @@ own_restoration on modular = (
       own_inside of_filter _ _ _ (own_extensions of_filter refl _) (λ skipped. tt))),
 )
 
-pub read_gabor_if : (s : List ℕ) (c : Cursor) (on : Bool) → Hands of_filter s c (gabor_read (read (gabor on) s c)).next
+pub read_gabor_if : (s : List ℕ) (c : Cursor) (on : Bool) → Hands of_filter s c ((read (gabor on) s c)).next
 read_gabor_if s c on = read_hands of_filter refl s (gabor on) (own_gabor on) c
 
-pub read_epf_if : (s : List ℕ) (c : Cursor) (on modular : Bool) → Hands of_half s c (epf_read (read (epf on modular) s c)).next
+pub read_epf_if : (s : List ℕ) (c : Cursor) (on modular : Bool) → Hands of_half s c ((read (epf on modular) s c)).next
 read_epf_if s c on modular = read_hands of_half refl s (epf on modular) (own_epf on modular) c
 
 pub read_restoration_filter_if : (s : List ℕ) (c : Cursor) (on modular : Bool)
-    → Hands of_filter s c (filter_read (read (restoration on modular) s c)).next
+    → Hands of_filter s c ((read (restoration on modular) s c)).next
 read_restoration_filter_if s c on modular = read_hands of_filter refl s (restoration on modular) (own_restoration on modular) c

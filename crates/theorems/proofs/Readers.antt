@@ -10,9 +10,9 @@ use mathlib.Core.List.{List, [], ◌∷◌}
 use mathlib.Core.Bool.{Bool, true, ◌&&◌}
 use lib.Dec.{eqb, leb}
 use borrow.Author.Tests.{leb-true}
+use Rattle.bits.specs.declared.Read.{Read}
 use Rattle.bits.specs.declared.Refusal.{Refusal}
 use Rattle.bits.specs.declared.Cursor.{Cursor}
-use Rattle.bits.specs.declared.Field.{Field}
 use Rattle.bits.specs.Refusals.{pick, refusal, start, clear}
 use Rattle.bits.specs.Bits.{bits_at, bit_count, there}
 use Rattle.bits.specs.Half.{exponent}
@@ -99,10 +99,10 @@ module _ (l : List ℕ) (ok : rules l ≡ true) where
     run_refuses (gives v) h p q i = refuses_none l last ok
     run_refuses (refuses n) h p q i = refuses_with l last n p ok h.0 h.1 i
     run_refuses (takes n f) h p q i =
-        of_both (λ (r : Field). Fine r.next.fault) (there s q n) (run (f (bits_at s q n)) s p (q + n)) (cut_at s p (q + n))
+        of_both (λ (r : Read ℕ). Fine r.next.fault) (there s q n) (run (f (bits_at s q n)) s p (q + n)) (cut_at s p (q + n))
         (run_refuses (f (bits_at s q n)) (h.1 (bits_at s q n)) p (q + n) i) (refuses_with l last 4 p ok h.0 refl i)
     run_refuses (skips n t) h p q i =
-        of_both (λ (r : Field). Fine r.next.fault) (leb (q + n) (bit_count s)) (run t s p (q + n)) (cut_at s p (q + n))
+        of_both (λ (r : Read ℕ). Fine r.next.fault) (leb (q + n) (bit_count s)) (run t s p (q + n)) (cut_at s p (q + n))
         (run_refuses t h.1 p (q + n) i) (refuses_with l last 4 p ok h.0 refl i)
 
     run_at : (t : Steps) (p q : ℕ) → p ≤ last → q ≤ last → (run t s p q).next.at ≤ last
@@ -110,7 +110,7 @@ module _ (l : List ℕ) (ok : rules l ≡ true) where
     run_at (gives v) p q i j = j
     run_at (refuses n) p q i j = i
     run_at (takes n f) p q i j =
-        picked (λ (r : Field). r.next.at ≤ last) (there s q n) (run (f (bits_at s q n)) s p (q + n)) (cut_at s p (q + n))
+        picked (λ (r : Read ℕ). r.next.at ≤ last) (there s q n) (run (f (bits_at s q n)) s p (q + n)) (cut_at s p (q + n))
         (λ t. run_at (f (bits_at s q n)) p (q + n) i (omega (
           arith,
           behind,
@@ -118,7 +118,7 @@ module _ (l : List ℕ) (ok : rules l ≡ true) where
               (and_parts (leb n 32) (leb (q + n) (bit_count s)) t).1,
         ))) (λ t. i)
     run_at (skips n t) p q i j =
-        picked (λ (r : Field). r.next.at ≤ last) (leb (q + n) (bit_count s)) (run t s p (q + n)) (cut_at s p (q + n))
+        picked (λ (r : Read ℕ). r.next.at ≤ last) (leb (q + n) (bit_count s)) (run t s p (q + n)) (cut_at s p (q + n))
         (λ e. run_at t p (q + n) i (omega (arith, behind, leb-true (q + n) (bit_count s) e))) (λ e. i)
 
     -- as it was, or refused
@@ -135,14 +135,14 @@ module _ (l : List ℕ) (ok : rules l ≡ true) where
         → Kept c.fault (field s on k d c).next.fault
     unfolding field
     field_kept on k d c h i =
-        of_both (λ (r : Field). Kept c.fault r.next.fault) (on && clear c) (run (steps k c.at) s c.at c.at)
+        of_both (λ (r : Read ℕ). Kept c.fault r.next.fault) (on && clear c) (run (steps k c.at) s c.at c.at)
         (record { value = d; next = c })
         (inr (run_refuses (steps k c.at) (low k c.at h) c.at c.at i)) (inl refl)
 
     field_at : (on : Bool) (k : Codec) (d : ℕ) (c : Cursor) → c.at ≤ last → (field s on k d c).next.at ≤ last
     unfolding field
     field_at on k d c i =
-        of_both (λ (r : Field). r.next.at ≤ last) (on && clear c) (run (steps k c.at) s c.at c.at) (record { value = d; next = c })
+        of_both (λ (r : Read ℕ). r.next.at ≤ last) (on && clear c) (run (steps k c.at) s c.at c.at) (record { value = d; next = c })
         (run_at (steps k c.at) c.at c.at i i) i
 
     failed_kept : (bad : Bool) (number back : ℕ) (c : Cursor) → among l number ≡ true → among placed number ≡ true → c.at ≤ last
@@ -157,7 +157,7 @@ module _ (l : List ℕ) (ok : rules l ≡ true) where
     unfolding read Own
     read_kept (ends a) h c i = (inl refl, i)
     read_kept (row on k d v rest) h c i =
-        let f : Field = field s on k d c in
+        let f : Read ℕ = field s on k d c in
         let more = read_kept (rest f.value) (h.1 f.value) f.next (field_at on k d c i) in
         (kept_on c.fault f.next.fault _ (field_kept on k d c h.0 i) more.0, more.1)
     read_kept (fails bad number back rest) h c i =

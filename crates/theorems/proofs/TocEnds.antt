@@ -8,11 +8,12 @@ use mathlib.Core.Bool.{Bool, true, false}
 use lib.Dec.{eqb, leb, ltb}
 use lib.ListN.{length}
 use borrow.Author.Tests.{eqb-true}
+use Rattle.bits.specs.declared.Read.{Read}
 use Rattle.bits.specs.declared.Refusal.{Refusal}
 use Rattle.bits.specs.declared.Cursor.{Cursor}
 use Rattle.bits.specs.Refusals.{pick, refusal, none, start, clear}
 use Rattle.bits.specs.Bits.{bit_count}
-use Rattle.bits.specs.Table.{Out, read}
+use Rattle.bits.specs.Table.{read}
 use Rattle.bits.proofs.Reading.{picked, read_within_end, of_both}
 use Rattle.grid.specs.declared.Frame.{Frame}
 use Rattle.grid.specs.Measured.{grid_of}
@@ -105,7 +106,7 @@ unfolding first_reading first_read refused_read
 first_said s f place t =
     let count : ℕ = (grid_of f).sections in
     let r : Refusal = judged s (grid_of f) place t in
-    let out : Out Sent = read (toc_rows count) s (start place) in
+    let out : Read Sent = read (toc_rows count) s (start place) in
     picked (λ (q : Reading). Said of_toc true (bit_count s) q.answer) (eqb r.number 0) (first_read count out) (refused_read r)
     (λ e.
     let h : place ≤ bit_count s = within s f place (roomy count t) (eqb-true _ 0 e) in
@@ -131,7 +132,7 @@ unfolding second_reading second_read refused_read
 second_said s f place lent t =
     let count : ℕ = (grid_of f).sections in
     let r : Refusal = judged_order s (grid_of f) place lent t in
-    let out : Out (List ℕ) = read (size_rows count) s (start place) in
+    let out : Read (List ℕ) = read (size_rows count) s (start place) in
     picked (λ (q : Reading). Said of_toc_order false (bit_count s) q.answer) (eqb r.number 0) (second_read count lent out) (refused_read r)
     (λ e.
     let h : place ≤ bit_count s = within s f place (roomy count t) (judged_first s f place lent t (eqb-true _ 0 e)) in

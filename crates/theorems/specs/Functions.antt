@@ -7,11 +7,11 @@ use Rattle.bits.specs.Bits.{bit_count}
 use Rattle.bits.specs.Table.{read, failed}
 use Rattle.bits.specs.declared.Choices.{Choices}
 use Rattle.bits.specs.declared.Sum.{Sum}
-use Rattle.bits.specs.Codec.{u, bool, u32, cases, u64, f16, padding, skip, wide_of, field}
+use Rattle.bits.specs.Codec.{u, bool, u32, cases, u64, f16, padding, skip, field}
 use Rattle.bits.specs.Extensions.{whole, extensions}
-use Rattle.filter.specs.Filter.{restoration, filter_read}
-use Rattle.filter.specs.Gabor.{gabor, gabor_read}
-use Rattle.filter.specs.Epf.{epf, epf_read}
+use Rattle.filter.specs.Filter.{restoration}
+use Rattle.filter.specs.Gabor.{gabor}
+use Rattle.filter.specs.Epf.{epf}
 use Rattle.grid.specs.declared.Frame.{Frame}
 use Rattle.grid.specs.declared.Rect.{Rect}
 use Rattle.grid.specs.Measured.{grid_of}
@@ -111,15 +111,15 @@ pub record EveryFunction : Type 0 where
   pub read_u32_if : (s : List ℕ) (c : Cursor) (on : Bool) (k : Choices) (d : ℕ) → Hands of_bits s c (field s on (u32 k) d c).next
   pub read_u32 : (s : List ℕ) (c : Cursor) (k : Choices) → Hands of_bits s c (field s true (u32 k) 0 c).next
   pub read_enum_if : (s : List ℕ) (c : Cursor) (on : Bool) (k : Choices) (n d : ℕ) → Hands of_enum s c (field s on (cases k n) d c).next
-  pub read_u64_if : (s : List ℕ) (c : Cursor) (on : Bool) (d : ℕ) → Hands of_bits s c (wide_of (field s on u64 d c)).next
-  pub read_u64 : (s : List ℕ) (c : Cursor) → Hands of_bits s c (wide_of (field s true u64 0 c)).next
+  pub read_u64_if : (s : List ℕ) (c : Cursor) (on : Bool) (d : ℕ) → Hands of_bits s c ((field s on u64 d c)).next
+  pub read_u64 : (s : List ℕ) (c : Cursor) → Hands of_bits s c ((field s true u64 0 c)).next
   pub read_f16_if : (s : List ℕ) (c : Cursor) (on : Bool) (d : ℕ) → Hands of_half s c (field s on f16 d c).next
   pub skip_bits_if : (s : List ℕ) (c : Cursor) (on : Bool) (n : Sum) → Hands of_bits s c (field s on (skip (whole n)) 0 c).next
   pub read_extensions_if : (s : List ℕ) (c : Cursor) (on : Bool) → Hands of_bits s c (read (extensions on) s c).next
-  pub read_gabor_if : (s : List ℕ) (c : Cursor) (on : Bool) → Hands of_filter s c (gabor_read (read (gabor on) s c)).next
-  pub read_epf_if : (s : List ℕ) (c : Cursor) (on modular : Bool) → Hands of_half s c (epf_read (read (epf on modular) s c)).next
+  pub read_gabor_if : (s : List ℕ) (c : Cursor) (on : Bool) → Hands of_filter s c ((read (gabor on) s c)).next
+  pub read_epf_if : (s : List ℕ) (c : Cursor) (on modular : Bool) → Hands of_half s c ((read (epf on modular) s c)).next
   pub read_restoration_filter_if : (s : List ℕ) (c : Cursor) (on modular : Bool)
-      → Hands of_filter s c (filter_read (read (restoration on modular) s c)).next
+      → Hands of_filter s c ((read (restoration on modular) s c)).next
   -- the C functions, over the frame of the six numbers, and what they are made of; the listing with any text
   pub section_named : (f : Frame) (kind pass group : ℕ) → SectionEnds of_index (section_of_numbers f kind pass group)
   pub section_by_lem : (words : List ℕ) (x y pass : ℕ) → SectionEnds of_layout_room (section_by words x y pass)

@@ -1,13 +1,13 @@
 -- What an accepted table is: its parts. Over these the theorems on a whole frame are proved (crate `theorems`).
 use Rattle.std.proofs.Common.{◌≡◌, ℕ, ◌*◌, ◌/◌, ◌<◌, ◌≤◌, Bool, true, false, eqb, List, length, get_or, sym, refl, ap, ◌∙◌, arith, eqb-true}
 use borrow.Author.Tests.{eqb-false}
+use Rattle.bits.specs.declared.Read.{Read}
 use Rattle.bits.specs.declared.Refusal.{Refusal}
 use Rattle.bits.specs.declared.Cursor.{Cursor}
-use Rattle.bits.specs.declared.Field.{Field}
 use Rattle.bits.specs.Refusals.{pick, start, clear}
 use Rattle.bits.specs.Bits.{bit_count}
 use Rattle.bits.specs.Codec.{bool, field}
-use Rattle.bits.specs.Table.{Out, read}
+use Rattle.bits.specs.Table.{read}
 use Rattle.bits.proofs.Reading.{picked, read_within_end, field_within}
 use Rattle.grid.specs.declared.Frame.{Frame}
 use Rattle.grid.specs.declared.Grid.{Grid}
@@ -110,7 +110,7 @@ module _ (s : List ℕ) (f : Frame) (t : Tables) (toc : Toc) (q : Reading) (l : 
     last_within : c.at ≤ bit_count s → (walked s c (grid_of f).sections).last.at ≤ bit_count s
     last_within h =
         let is : (read (size_rows (grid_of f).sections) s c).next ≡ (walked s c (grid_of f).sections).last =
-        ap (λ (o : Out (List ℕ)). o.next) (rows_read s c (grid_of f).sections) in
+        ap (λ (o : Read (List ℕ)). o.next) (rows_read s c (grid_of f).sections) in
         rw (← is) (read_within_end (size_rows (grid_of f).sections) s c h)
 
     filled_is : after q t ≡ tables_of toc q.sizes q.order t
@@ -152,7 +152,7 @@ first_accepted s f place t toc e =
     (λ z'.
     let z : r.number ≡ 0 = eqb-true r.number 0 z' in
     let ok = fair s f place t g refl (roomy g.sections t) refl r refl z in
-    let flag : Field = field s true bool 0 (start place) in
+    let flag : Read ℕ = field s true bool 0 (start place) in
     split (eqb flag.value 0)
     (λ p.
     let is =
@@ -182,7 +182,7 @@ module _ (s : List ℕ) (f : Frame) (place : ℕ) (t : Tables) where
   first_telling =
       let g : Grid = grid_of f in
       let r : Refusal = judged s g place t in
-      let out : Out Sent = read (toc_rows g.sections) s (start place) in
+      let out : Read Sent = read (toc_rows g.sections) s (start place) in
       picked (λ (q : Reading). Telling q.answer) (eqb r.number 0) (first_read g.sections out) (refused_read r)
       (λ e.
       picked Telling (eqb out.value.permuted 0) (sized_answer g.sections out.value.sizes out.next) (OrderNeeded out.next.at)
@@ -196,7 +196,7 @@ module _ (s : List ℕ) (f : Frame) (place : ℕ) (t : Tables) where
       let g : Grid = grid_of f in
       let r : Refusal = judged_order s g place lent t in
       let first : Refusal = judged s g place t in
-      let out : Out (List ℕ) = read (size_rows g.sections) s (start place) in
+      let out : Read (List ℕ) = read (size_rows g.sections) s (start place) in
       picked (λ (q : Reading). Telling q.answer) (eqb r.number 0) (second_read g.sections lent out) (refused_read r)
       (λ e.
       sized_telling g.sections out.value out.next

@@ -1,22 +1,22 @@
 -- The columns of a table of contents give back what was read: the law of bits' `Columns`. The paddings aren't kept; they are read as 0 or refused.
 use Rattle.std.proofs.Common.{◌≡◌, ℕ, Bool, true, false, eqb, List, [], get_or, sym, refl, ap, zero-add}
+use Rattle.bits.specs.declared.Read.{Read}
 use Rattle.bits.specs.declared.Cursor.{Cursor}
-use Rattle.bits.specs.declared.Field.{Field}
 use Rattle.bits.specs.Refusals.{pick}
 use Rattle.bits.specs.Codec.{bool, padding, field}
-use Rattle.bits.specs.Table.{Table, Out, ends, read, bind, within, times}
+use Rattle.bits.specs.Table.{Table, ends, read, bind, within, times}
 use Rattle.bits.proofs.Rows.{Reads, row_then, bind_then, within_then, at_end}
 use Rattle.bits.proofs.Columns.{Columns, columns_bind, columns_inside, columns_times, padding_zero}
 use Rattle.toc.specs.Sizes.{size_row, size_rows, Sent, toc_rows}
 
 module _ (count : ℕ) (s : List ℕ) (c : Cursor) where
-  abbrev before : Field
+  abbrev before : Read ℕ
   before = field s true padding 0 c
 
-  abbrev sizes : Out (List ℕ)
+  abbrev sizes : Read (List ℕ)
   sizes = read (times count 0 size_row) s before.next
 
-  abbrev behind : Field
+  abbrev behind : Read ℕ
   behind = field s true padding 0 sizes.next
 
   sizes_read : Reads (size_rows count) s c (record { value = sizes.value; next = behind.next })
@@ -56,7 +56,7 @@ module _ (count : ℕ) (s : List ℕ) (c : Cursor) (flag : ℕ) where
       let out = read (size_rows count) s c in
       let at : Reads (listed count flag true) s c (record { value = record { permuted = flag; sizes = out.value }; next = out.next }) =
       within_then _ _ _ out.value out.next (record { is = refl }) at_end in
-      ap (λ (o : Out Sent). o.value) at.is
+      ap (λ (o : Read Sent). o.value) at.is
   listed_value false = refl
 
   listed_columns : (b : Bool) → Columns (listed count flag b) s c (found count s c flag b)
@@ -67,5 +67,5 @@ module _ (count : ℕ) (s : List ℕ) (c : Cursor) (flag : ℕ) where
 pub toc_columns : (count : ℕ) (s : List ℕ) (c : Cursor) → Columns (toc_rows count) s c (read (toc_rows count) s c).value
 unfolding toc_rows Columns read
 toc_columns count s c =
-    let flag : Field = field s true bool 0 c in
+    let flag : Read ℕ = field s true bool 0 c in
     rw (listed_value count s flag.next flag.value (eqb flag.value 0)) (λ on. refl, listed_columns count s flag.next flag.value (eqb flag.value 0))

@@ -1,11 +1,11 @@
 -- Laws of the two entries: what each way out promises of the answer and of the four tables.
 use Rattle.std.proofs.Common.{◌≡◌, ℕ, ◌/◌, ◌≤◌, Bool, true, false, eqb, List, [], length, take, sym, refl, ap, ◌∙◌, le_refl, arith, take_all, eq-eqb, ne_eqb}
+use Rattle.bits.specs.declared.Read.{Read}
 use Rattle.bits.specs.declared.Refusal.{Refusal}
 use Rattle.bits.specs.declared.Cursor.{Cursor}
-use Rattle.bits.specs.declared.Field.{Field}
 use Rattle.bits.specs.Refusals.{pick, start}
 use Rattle.bits.specs.Codec.{bool, field}
-use Rattle.bits.specs.Table.{Table as Rows, Out, ends, read, bind, within}
+use Rattle.bits.specs.Table.{Table as Rows, ends, read, bind, within}
 use Rattle.bits.proofs.Tables.{read_bind, read_within}
 use Rattle.grid.specs.declared.Frame.{Frame}
 use Rattle.grid.specs.declared.Grid.{Grid}
@@ -34,21 +34,21 @@ use Rattle.toc.proofs.Filling.{sent_before_lem, placed_by_section, offsets_by_le
 plain : ℕ → ℕ → Rows Sent Sent
 plain count flag = bind (within (λ r. r.sizes) (size_rows count)) λ sizes. ends (record { permuted = flag; sizes = sizes })
 
-module _ (s : List ℕ) (c : Cursor) (count : ℕ) (flag : Field) (e : flag ≡ field s true bool 0 c) where
+module _ (s : List ℕ) (c : Cursor) (count : ℕ) (flag : Read ℕ) (e : flag ≡ field s true bool 0 c) where
   rows_after : read (toc_rows count) s c ≡ read (pick (eqb flag.value 0) (plain count flag.value) (ends (record { permuted = flag.value; sizes = [] }))) s flag.next
   unfolding read toc_rows plain
   rows_after =
-      ap (λ (x : Field). read (pick (eqb x.value 0) (plain count x.value) (ends (record { permuted = x.value; sizes = [] }))) s x.next) (sym e)
+      ap (λ (x : Read ℕ). read (pick (eqb x.value 0) (plain count x.value) (ends (record { permuted = x.value; sizes = [] }))) s x.next) (sym e)
 
   pub rows_permuted : (flag.value ≡ 0 → ⊥)
-      → ◌≡◌ {A = Out Sent} (read (toc_rows count) s c) (record { value = record { permuted = flag.value; sizes = [] }; next = flag.next })
+      → ◌≡◌ {A = Read Sent} (read (toc_rows count) s c) (record { value = record { permuted = flag.value; sizes = [] }; next = flag.next })
   unfolding read
   rows_permuted h =
       rows_after
       ∙ ap (λ (b : Bool). read (pick b (plain count flag.value) (ends (record { permuted = flag.value; sizes = [] }))) s flag.next) (ne_eqb flag.value 0 h)
 
   pub rows_plain : flag.value ≡ 0
-      → ◌≡◌ {A = Out Sent} (read (toc_rows count) s c)
+      → ◌≡◌ {A = Read Sent} (read (toc_rows count) s c)
       (record { value = record { permuted = flag.value; sizes = tabulate count (size_at s (padded s flag.next)) }; next = (walked s flag.next count).last })
   unfolding read plain
   rows_plain h =
@@ -56,7 +56,7 @@ module _ (s : List ℕ) (c : Cursor) (count : ℕ) (flag : Field) (e : flag ≡ 
       rows_after
       ∙ ap (λ (b : Bool). read (pick b (plain count flag.value) (ends (record { permuted = flag.value; sizes = [] }))) s flag.next) (eq-eqb flag.value 0 h)
       ∙ read_bind (within (λ (r : Sent). r.sizes) (size_rows count)) end s flag.next
-      ∙ ap (λ (o : Out (List ℕ)). read (end o.value) s o.next) (read_within (λ (r : Sent). r.sizes) (size_rows count) s flag.next ∙ rows_read s flag.next count)
+      ∙ ap (λ (o : Read (List ℕ)). read (end o.value) s o.next) (read_within (λ (r : Sent). r.sizes) (size_rows count) s flag.next ∙ rows_read s flag.next count)
 
 -- ---- what an entry promises, by its answer
 
@@ -160,8 +160,8 @@ module _ (s : List ℕ) (f : Frame) (place : ℕ) (t : Tables) (g : Grid) (m : g
     first_refused h =
         done_kept (first_reading s f place t) t (Refused r) (rw (← judged_is, ne_eqb r.number 0 h)) (kept_refused t r)
 
-    module _ (z : r.number ≡ 0) (b : Cursor) (eb : b ≡ start place) (flag : Field) (ef : flag ≡ field s true bool 0 b) where
-      first_goes : (out : Out Sent) → read (toc_rows g.sections) s b ≡ out → first_reading s f place t ≡ first_read g.sections out
+    module _ (z : r.number ≡ 0) (b : Cursor) (eb : b ≡ start place) (flag : Read ℕ) (ef : flag ≡ field s true bool 0 b) where
+      first_goes : (out : Read Sent) → read (toc_rows g.sections) s b ≡ out → first_reading s f place t ≡ first_read g.sections out
       unfolding first_reading
       first_goes out eo = rw (← judged_is, eq-eqb r.number 0 z, ← m, ← eb, eo)
 

@@ -1,9 +1,9 @@
 -- Laws of sizes out of bits that are known.
 use Rattle.std.proofs.Common.{◌≡◌, ℕ, zero, suc, ◌+◌, ◌-◌, ◌*◌, ◌/◌, ◌%◌, ◌^◌, ◌<◌, ◌≤◌, min, Bool, true, false, not, ◌&&◌, eqb, leb, List, sym, refl, ap, ◌∙◌, true≢false, mod-lt, mod-eq_of_lt, arith, lit<, lit≤, ne_eqb, leb-true}
 use borrow.Author.Tests.{not-false}
+use Rattle.bits.specs.declared.Read.{Read}
 use Rattle.bits.specs.declared.Choice.{Choice}
 use Rattle.bits.specs.declared.Cursor.{Cursor}
-use Rattle.bits.specs.declared.Field.{Field}
 use Rattle.bits.specs.declared.window.Ahead.{Ahead}
 use Rattle.bits.specs.declared.view.View.{View}
 use Rattle.bits.specs.declared.view.Seen.{Seen}
@@ -112,6 +112,6 @@ module _ (s : List ℕ) (c : Cursor) (on i : Bool) (ei : i ≡ not (on && clear 
         rw ep
         (record {
           wanted = asked;
-          first = ap (λ (f : Field). f.value) here;
-          second = two.0 ∙ ap (λ (f : Field). field s true (u32 size_choices) 0 f.next) here;
+          first = ap (λ (f : Read ℕ). f.value) here;
+          second = two.0 ∙ ap (λ (f : Read ℕ). field s true (u32 size_choices) 0 f.next) here;
         })

@@ -1,14 +1,14 @@
 -- Laws of the walk over the sizes: how large a size is, what a turn of the walk adds, and that the walk is the reading of the table of fields.
 use Rattle.std.proofs.Common.{◌≡◌, ℕ, zero, suc, ◌+◌, ◌*◌, ◌%◌, ◌^◌, ◌<◌, ◌≤◌, Bool, true, eqb, List, ◌∷◌, length, get_or, take, set, sym, refl, ap, ◌∙◌, add-zero, add-one, arith, lit≤}
 use native.Mathlib.Nat.{mod-le}
+use Rattle.bits.specs.declared.Read.{Read}
 use Rattle.bits.specs.declared.Cursor.{Cursor}
-use Rattle.bits.specs.declared.Field.{Field}
 use Rattle.bits.specs.declared.Choice.{Choice}
 use Rattle.bits.specs.Refusals.{clear, start as start_at}
 use Rattle.bits.specs.Bits.{bits_at, there}
 use Rattle.bits.specs.Steps.{run}
 use Rattle.bits.specs.Codec.{u32, padding, field, chosen}
-use Rattle.bits.specs.Table.{ends, row, Out, read, bind, times}
+use Rattle.bits.specs.Table.{ends, row, read, bind, times}
 use Rattle.bits.proofs.Bits.{bits_lt}
 use Rattle.bits.proofs.Tables.{read_bind}
 use Rattle.bits.proofs.Reading.{of_both}
@@ -38,9 +38,9 @@ field_small s c =
     let x : ℕ = bits_at s (p + 2) ch.bits in
     let low : (ch.base + x) % 2 ^ 32 < 1077953536 =
     omega (arith, mod-le (ch.base + x) (2 ^ 32), bits_lt s (p + 2) ch.bits, choice_small k) in
-    of_both (λ (r : Field). r.value < 1077953536) (clear c) _ _
-    (of_both (λ (r : Field). r.value < 1077953536) (there s p 2) _ _
-    (of_both (λ (r : Field). r.value < 1077953536) (there s (p + 2) ch.bits) _ _ low (lit≤ tt))
+    of_both (λ (r : Read ℕ). r.value < 1077953536) (clear c) _ _
+    (of_both (λ (r : Read ℕ). r.value < 1077953536) (there s p 2) _ _
+    (of_both (λ (r : Read ℕ). r.value < 1077953536) (there s (p + 2) ch.bits) _ _ low (lit≤ tt))
     (lit≤ tt))
     (lit≤ tt)
 
@@ -62,15 +62,15 @@ pub walking_none : (s : List ℕ) (first : Cursor) (start : ℕ) → Walking s f
 unfolding cursor_at offset_at sum_to
 walking_none s first start = record { place = refl; total = sym (add-zero start) }
 
-module _ (s : List ℕ) (first : Cursor) (start : ℕ) (at : Cursor) (k sum : ℕ) (w : Walking s first start at k sum) (x : Field) (e : x ≡ field s true (u32 size_choices) 0 at) where
+module _ (s : List ℕ) (first : Cursor) (start : ℕ) (at : Cursor) (k sum : ℕ) (w : Walking s first start at k sum) (x : Read ℕ) (e : x ≡ field s true (u32 size_choices) 0 at) where
   pub walking_size : x.value ≡ size_at s first k
   unfolding size_at
-  walking_size = ap (λ (f : Field). f.value) e ∙ ap (λ (c : Cursor). (field s true (u32 size_choices) 0 c).value) w.place
+  walking_size = ap (λ (f : Read ℕ). f.value) e ∙ ap (λ (c : Cursor). (field s true (u32 size_choices) 0 c).value) w.place
 
   pub walking_more : Walking s first start x.next (k + 1) (sum + x.value)
   unfolding cursor_at offset_at sum_to
   walking_more = record {
-    place = rw (add-one k) (ap (λ (f : Field). f.next) e ∙ ap (λ (c : Cursor). (field s true (u32 size_choices) 0 c).next) w.place);
+    place = rw (add-one k) (ap (λ (f : Read ℕ). f.next) e ∙ ap (λ (c : Cursor). (field s true (u32 size_choices) 0 c).next) w.place);
     total = rw (add-one k) (omega (arith, w.total, walking_size));
   }
 
@@ -80,10 +80,10 @@ module _ (s : List ℕ) (first : Cursor) (start : ℕ) (at : Cursor) (k sum : �
 
 -- two sizes that were read at once are two turns
 module _ (s : List ℕ) (first : Cursor) (start : ℕ) (at : Cursor) (k sum : ℕ) (w : Walking s first start at k sum) (on : Bool) (p : Pair) (t : Two s at on p) where
-  abbrev one : Field
+  abbrev one : Read ℕ
   one = field s true (u32 size_choices) 0 at
 
-  abbrev other : Field
+  abbrev other : Read ℕ
   other = record { value = p.second; next = start_at p.at }
 
   pub pair_between : Walking s first start one.next (k + 1) (sum + p.first)
@@ -147,11 +147,11 @@ size_first s c = refl
 
 -- the rows of the sizes are read as the walk reads them
 pub times_read : (n i : ℕ) (s : List ℕ) (c : Cursor)
-    → ◌≡◌ {A = Out (List ℕ)} (read (times n i size_row) s c) (record { value = tabulate n (size_at s c); next = cursor_at s c n })
+    → ◌≡◌ {A = Read (List ℕ)} (read (times n i size_row) s c) (record { value = tabulate n (size_at s c); next = cursor_at s c n })
 unfolding read bind times tabulate cursor_at
 times_read zero i s c = refl
 times_read (suc n) i s c =
-    let f : Field = field s true (u32 size_choices) 0 c in
+    let f : Read ℕ = field s true (u32 size_choices) 0 c in
     let rest = times_read n (suc i) s f.next in
     let words : tabulate n (size_at s f.next) ≡ tabulate n (λ k. size_at s c (suc k)) = tabulate_ext n _ _ (λ k h. sym (size_later s c k)) in
     let head : f.value ≡ size_at s c 0 = size_first s c in
@@ -159,7 +159,7 @@ times_read (suc n) i s c =
     ∙ rw (rest, words, ← cursor_later s c n, head)
 
 pub rows_read : (s : List ℕ) (c : Cursor) (count : ℕ)
-    → ◌≡◌ {A = Out (List ℕ)} (read (size_rows count) s c) (record { value = tabulate count (size_at s (padded s c)); next = (walked s c count).last })
+    → ◌≡◌ {A = Read (List ℕ)} (read (size_rows count) s c) (record { value = tabulate count (size_at s (padded s c)); next = (walked s c count).last })
 unfolding read size_rows walked
 rows_read s c count =
     read_bind (times count 0 size_row) (λ (sizes : List ℕ). row true padding 0 (λ r. 0) λ q. ends sizes) s (padded s c)

@@ -1,8 +1,8 @@
 -- What private functions promise: the walk over the sizes, one by one. That it is the table's own reading is a law. Nothing that a caller is
 -- promised names these.
 use Rattle.std.specs.Prelude.{◌≡◌, ℕ, zero, suc, ◌+◌, ◌≤◌, Bool, true, List}
+use Rattle.bits.specs.declared.Read.{Read}
 use Rattle.bits.specs.declared.Cursor.{Cursor}
-use Rattle.bits.specs.declared.Field.{Field}
 use Rattle.bits.specs.declared.view.View.{View}
 use Rattle.bits.specs.declared.view.Seen.{Seen}
 use Rattle.bits.specs.Refusals.{pick, start}
@@ -38,7 +38,7 @@ seen_size w = seen_choice (seen w true 2) (chosen size_choices (seen w true 2).v
 pub record Two (s : List ℕ) (c : Cursor) (on : Bool) (p : Pair) : Type 0 where
   pub wanted : on ≡ true
   pub first : p.first ≡ (field s true (u32 size_choices) 0 c).value
-  pub second : ◌≡◌ {A = Field} (record { value = p.second; next = start p.at }) (field s true (u32 size_choices) 0 (field s true (u32 size_choices) 0 c).next)
+  pub second : ◌≡◌ {A = Read ℕ} (record { value = p.second; next = start p.at }) (field s true (u32 size_choices) 0 (field s true (u32 size_choices) 0 c).next)
 
 -- to the next byte boundary
 abbrev pub padded : List ℕ → Cursor → Cursor

@@ -1,9 +1,10 @@
 -- The two section entries: the refusals in their order, the answer, and what the four lent tables hold afterwards.
 use Rattle.std.specs.Prelude.{◌≡◌, ℕ, ◌*◌, ◌/◌, Bool, ◌&&◌, List, [], length, ◌==◌, nat_le, nat_lt}
+use Rattle.bits.specs.declared.Read.{Read}
 use Rattle.bits.specs.declared.Refusal.{Refusal}
 use Rattle.bits.specs.declared.Cursor.{Cursor}
 use Rattle.bits.specs.Refusals.{pick, refusal, none, start, clear}
-use Rattle.bits.specs.Table.{Out, read}
+use Rattle.bits.specs.Table.{read}
 use Rattle.grid.specs.declared.Frame.{Frame}
 use Rattle.grid.specs.declared.Grid.{Grid}
 use Rattle.grid.specs.Measured.{grid_of}
@@ -85,7 +86,7 @@ unfoldable pub sized_answer : ℕ → List ℕ → Cursor → TocRead
 sized_answer count sizes c = pick (clear c) (Table (toc_of count sizes c)) (Refused c.fault)
 
 -- the first entry, from the flag on: a flag of 1 is "order needed" with the place after it; else both orders are the identity
-unfoldable pub first_read : ℕ → Out Sent → Reading
+unfoldable pub first_read : ℕ → Read Sent → Reading
 first_read count out = record {
   answer =
       pick (out.value.permuted == 0)
@@ -96,7 +97,7 @@ first_read count out = record {
 }
 
 -- the second entry, from the padding on, with a lent order
-unfoldable pub second_read : ℕ → List ℕ → Out (List ℕ) → Reading
+unfoldable pub second_read : ℕ → List ℕ → Read (List ℕ) → Reading
 second_read count lent out = record { answer = sized_answer count out.value out.next; order = lent; sizes = out.value }
 
 -- a refusal, beside which there is no table

@@ -10,7 +10,7 @@ ghost use Rattle.toc.specs.Sizes.{size_choices};
 
 use crate::orders::put_orders;
 use crate::{Toc, TocRead};
-use bits::{Choice, Cursor, Field, Refusal, Seen, View};
+use bits::{Read, Choice, Cursor, Refusal, Seen, View};
 use grid::{Frame, Grid};
 
 // Whether each of four tables has a word for each section.
@@ -53,7 +53,7 @@ struct Walk {
 }
 
 // One size: U32(u(10), 1024 + u(14), 17408 + u(22), 4211712 + u(30)).
-fn read_size(s: &[u8], c: Cursor) -> Field
+fn read_size(s: &[u8], c: Cursor) -> Read<u32>
     ensures { result ≡ field s.now true (u32 size_choices) 0 c }
 {
     let d = bits::one_of(0, 10, 1024, 14, 17408, 22, 4211712, 30);

@@ -10,4 +10,4 @@ returns-then-idle c = failed_not _ _ _ _ _ c.idle.ensures c.if-idle.true
 pub returns : goal.returns
 returns c =
     ap (λ (r : Refusal). record { at = c.args.c.at; fault = r }) c.refused-fault.ensures
-    ∙ failed_at _ _ _ _ _ c.idle.ensures _ c.so_far_back.ensures c.if-idle.false
+    ∙ failed_at _ _ _ _ _ c.idle.ensures _ c.saturating_sub.ensures c.if-idle.false

@@ -11,12 +11,12 @@ returns-then-idle c =
     let a = c.args in
     field_passed a.s.now a.on (u a.n) _ _ _ c.idle.ensures c.if-idle.true _ c.kept.ensures
 
-pub returns-then-not-x : goal.returns-then-not-x
-returns-then-not-x c =
+pub returns-in_default : goal.returns-in_default
+returns-in_default c =
     c.cut_at.ensures
-    ∙ first_cut c.args.s.now c.args.on (u c.args.n) _ _ _ c.idle.ensures _ _ refl c.if-idle.false _ c.take-x.ensures c.if-not-x.true
+    ∙ first_cut c.args.s.now c.args.on (u c.args.n) _ _ _ c.idle.ensures _ _ refl c.if-idle.false _ c.take.ensures c.in_default.is
 
 pub returns : goal.returns
 returns c =
     given c.args.s.now c.args.c.at _ _ _ _ refl c.begin.ensures
-    ∙ sym (first_taken c.args.s.now c.args.on (u c.args.n) _ _ _ c.idle.ensures _ gives refl c.if-idle.false _ c.take-x.ensures c.if-not-x.false)
+    ∙ sym (first_taken c.args.s.now c.args.on (u c.args.n) _ _ _ c.idle.ensures _ gives refl c.if-idle.false _ c.take.ensures c.in-Some.x c.in-Some.is)

@@ -9,17 +9,12 @@ use Rattle.bits.proofs.pieces.take.Goals as goal
 pub is_there-requires : goal.is_there-requires
 is_there-requires c = ap (λ (a : Ahead). a.whole) c.look_ahead-a.ensures
 
-pub overflow_add-result : goal.overflow_add-result
-overflow_add-result c =
-    let a = c.args in
-    record { fits = omega (arith, there_parts a.s.now a.p a.n (sym c.is_there.ensures ∙ c.if-is_there.true)) }
+pub returns-then-not-is_there : goal.returns-then-not-is_there
+returns-then-not-is_there c = piece_cut c.args.s.now _ _ (sym c.is_there.ensures ∙ c.if-not-is_there.true)
 
-pub returns-then-is_there : goal.returns-then-is_there
-returns-then-is_there c =
+pub returns : goal.returns
+returns c =
     let a = c.args in
-    let there = sym c.is_there.ensures ∙ c.if-is_there.true in
+    let there = sym c.is_there.ensures ∙ c.if-not-is_there.false in
     piece_there a.s.now _ _ _ there
     (peeked a.s.now a.p a.n _ _ (there_parts a.s.now a.p a.n there).0 (ap (λ (a : Ahead). a.bits) c.look_ahead-a.ensures) c.low_bits.ensures)
-
-pub returns-else-is_there : goal.returns-else-is_there
-returns-else-is_there c = piece_cut c.args.s.now _ _ (sym c.is_there.ensures ∙ c.if-is_there.false)

@@ -4,7 +4,4 @@ use Rattle.bits.specs.Bits.{bits_at}
 use Rattle.bits.proofs.window.word_at_end.Given as goal
 
 abbrev pub invariant-loop-k : goal.invariant-loop-k
-invariant-loop-k l = (l.i ≤ l.k) × (l.k ≤ l.i + 8) × (l.shift ≡ 8 * (l.k - l.i)) × (l.v ≡ bits_at l.s (8 * l.i) (8 * (l.k - l.i)))
-
-abbrev pub decreases-loop-k : goal.decreases-loop-k
-decreases-loop-k l = l.end - l.k
+invariant-loop-k l = (l.k ≤ l.i + 8) × (l.v ≡ bits_at l.s (8 * l.i) (8 * (l.k - l.i)))

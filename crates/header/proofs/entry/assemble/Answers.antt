@@ -1,7 +1,8 @@
--- Field by field.
+-- Read ℕ by field.
 use mathlib.Core.Path.{◌∙◌}
 use mir.Syntax.{w32}
 use mir.ValLaws.{to_z-of_z}
+use Rattle.bits.specs.declared.Read.{Read}
 use Rattle.header.proofs.Entering.{assembled}
 use Rattle.header.proofs.entry.assemble.Goals as goal
 

@@ -1,12 +1,11 @@
 -- One call a row.
-use Rattle.header.specs.Private.{opening_read}
 use mathlib.Core.Path.{◌∙◌, ap}
 use Rattle.header.proofs.Bundles.{opening_law}
 use Rattle.header.proofs.opening.read_opening.Goals as goal
 
 pub returns : goal.returns
 returns c =
-    ap opening_read
+    
     (opening_law c.args.s.now c.args.c c.args.f _ _ _ _ _ _ _ _ _
     c.read_bool_if-all.ensures
     c.read_bits_if-kind.ensures

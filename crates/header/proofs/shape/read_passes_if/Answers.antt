@@ -1,12 +1,11 @@
 -- Two counts, and three arrays on tables of just their size.
 use mathlib.Core.Path.{refl, ◌∙◌, ap}
-use Rattle.header.specs.Private.{passes_read}
 use Rattle.header.proofs.Bundles.{passes_law}
 use Rattle.header.proofs.shape.read_passes_if.Goals as goal
 
 pub returns : goal.returns
 returns c =
-    ap passes_read
+    
     (passes_law c.args.s.now c.args.c c.args.on _ _ _ _ _ _ _ _ _ _ _ _
     (c.read_u32_if-n.ensures ∙ rw c.pass_choices.ensures)
     (c.read_u32_if-ds.ensures ∙ rw c.ds_choices.ensures)

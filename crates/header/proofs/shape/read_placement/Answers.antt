@@ -1,6 +1,5 @@
 -- One call a row; a level is at most 3 before one is added.
 use native.Mathlib.Omega.{arith}
-use Rattle.header.specs.Private.{placement_read}
 use mathlib.Core.Path.{◌∙◌, ap}
 use Rattle.header.proofs.Bundles.{placement_law, bits_below}
 use Rattle.header.proofs.shape.read_placement.Goals as goal
@@ -10,7 +9,7 @@ overflow_add-level c = omega (arith, bits_below c.args.s.now _ 2 _ _ c.read_bits
 
 pub returns : goal.returns
 returns c =
-    ap placement_read
+    
     (placement_law c.args.s.now c.args.c c.args.f c.args.o _ _ _ _ _ _ _
     c.read_bits_if-level.ensures
     c.either_number-lf_level.ensures

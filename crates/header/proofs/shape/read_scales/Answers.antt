@@ -1,12 +1,11 @@
 -- One call a row.
-use Rattle.header.specs.Private.{scales_read}
 use mathlib.Core.Path.{◌∙◌, ap}
 use Rattle.header.proofs.Bundles.{scales_law}
 use Rattle.header.proofs.shape.read_scales.Goals as goal
 
 pub returns : goal.returns
 returns c =
-    ap scales_read
+    
     (scales_law c.args.s.now c.args.c c.args.f c.args.o _ _ _ _ _
     c.both-xyb.ensures
     c.either_number.ensures

@@ -1,6 +1,6 @@
 -- `skip_bits_if`: passed by, past the end, or within it.
+use Rattle.bits.specs.declared.Read.{Read}
 use Rattle.std.proofs.Common.{◌≡◌, sym, ap, ◌∙◌, arith}
-use Rattle.bits.specs.declared.Field.{Field}
 use Rattle.bits.specs.Codec.{skip}
 use Rattle.bits.specs.Extensions.{whole}
 use Rattle.bits.proofs.Steps.{field_idle}
@@ -8,7 +8,7 @@ use Rattle.bits.proofs.Codecs.{skip_cut, skip_goes}
 use Rattle.numbers.proofs.skips.skip_bits_if.Goals as goal
 
 pub returns-then-idle : goal.returns-then-idle
-returns-then-idle c = c.kept.ensures ∙ sym (ap (λ (f : Field). f.next) (field_idle c.args.s.now c.args.on (skip (whole c.args.n)) 0 _ _ c.idle.ensures c.if-idle.true))
+returns-then-idle c = c.kept.ensures ∙ sym (ap (λ (f : Read ℕ). f.next) (field_idle c.args.s.now c.args.on (skip (whole c.args.n)) 0 _ _ c.idle.ensures c.if-idle.true))
 
 pub returns-then-n-ne0 : goal.returns-then-n-ne0
 returns-then-n-ne0 c = skip_cut c.args.s.now _ _ _ _ c.idle.ensures c.if-idle.false _ c.stop_cut.ensures (omega arith)
