@@ -1,5 +1,5 @@
 -- Laws of the long U64: a continuation bit, then one piece more at its shift.
-use Rattle.std.proofs.Common.{◌≡◌, ℕ, zero, suc, ◌+◌, ◌-◌, ◌*◌, ◌/◌, ◌%◌, ◌^◌, ◌<◌, ◌≤◌, true, false, not, List, sym, ap, ◌∙◌, add_comm, arith, pow-add, shl_exact, eq-eqb, ne_eqb}
+use Rattle.std.proofs.Common.{◌≡◌, Option, Some, None, ℕ, zero, suc, ◌+◌, ◌-◌, ◌*◌, ◌/◌, ◌%◌, ◌^◌, ◌<◌, ◌≤◌, true, false, not, List, sym, ap, ◌∙◌, add_comm, arith, pow-add, shl_exact, eq-eqb, ne_eqb}
 use lib.Arith.{digits_lt}
 use lib.Bits.{bit_or, or_shifted_r}
 use Rattle.bits.specs.declared.Read.{Read}
@@ -10,11 +10,6 @@ use Rattle.bits.specs.Steps.{gives, takes, cut_at, run, piece}
 use Rattle.bits.specs.Codec.{more, long}
 use Rattle.bits.proofs.Steps.{run_take, run_cut, piece_lt}
 
--- a wide field of which something was read
-pub wide_given : (s : List ℕ) (p q v w : ℕ) (b : Cursor) → w ≡ v → b ≡ start q → ◌≡◌ {A = Read ℕ} (record { value = w; next = b }) ((run (gives v) s p q))
-unfolding run
-wide_given s p q v w b ew eb = rw (ew, eb)
-
 -- w bits above what was read so far
 module _ (v x shift w : ℕ) (hv : v < 2 ^ shift) (hx : x < 2 ^ w) (room : w + shift ≤ 64) where
   pub joined : bit_or v (x * 2 ^ shift % 18446744073709551616) ≡ v + x * 2 ^ shift
@@ -23,48 +18,51 @@ module _ (v x shift w : ℕ) (hv : v < 2 ^ shift) (hx : x < 2 ^ w) (room : w + s
   pub joined_lt : bit_or v (x * 2 ^ shift % 18446744073709551616) < 2 ^ (w + shift)
   joined_lt = rw (joined, add_comm v (x * 2 ^ shift), pow-add 2 w shift) (digits_lt hx hv)
 
-module _ (s : List ℕ) (p q v : ℕ) (b : Piece) (eb : b ≡ piece s q 1) where
-  pub more_cut : (k : ℕ) → not b.there ≡ true → run (more k v) s p q ≡ cut_at s p (q + 1)
+module _ (s : List ℕ) (p q v : ℕ) (r : Option Piece) (er : r ≡ piece s q 1) where
+  pub more_cut : (k : ℕ) → r ≡ None → run (more k v) s p q ≡ cut_at s p (q + 1)
   unfolding more
-  more_cut zero t = run_cut s q 1 p _ b eb t
-  more_cut (suc k) t = run_cut s q 1 p _ b eb t
+  more_cut zero t = run_cut s q 1 r er p _ t
+  more_cut (suc k) t = run_cut s q 1 r er p _ t
 
-  pub more_ends : (k : ℕ) → not b.there ≡ false → b.value ≡ 0 → run (more k v) s p q ≡ run (gives v) s p b.at
-  unfolding more
-  more_ends zero t h = run_take s q 1 p _ b eb t ∙ rw (eq-eqb b.value 0 h)
-  more_ends (suc k) t h = run_take s q 1 p _ b eb t ∙ rw (eq-eqb b.value 0 h)
-
-  module _ (t : not b.there ≡ false) (h : b.value ≡ 0 → ⊥) where
-    pub more_last : run (more 0 v) s p q ≡ run (takes 4 λ x. gives (v + x * 2 ^ 60)) s p b.at
+  module _ (b : Piece) (t : r ≡ Some b) where
+    pub more_ends : (k : ℕ) → b.value ≡ 0 → run (more k v) s p q ≡ run (gives v) s p b.at
     unfolding more
-    more_last = run_take s q 1 p _ b eb t ∙ rw (ne_eqb b.value 0 h)
+    more_ends zero h = run_take s q 1 r er p _ b t ∙ rw (eq-eqb b.value 0 h)
+    more_ends (suc k) h = run_take s q 1 r er p _ b t ∙ rw (eq-eqb b.value 0 h)
 
-    more_next : (k : ℕ) → run (more (suc k) v) s p q ≡ run (takes 8 λ x. more k (v + x * 2 ^ (52 - 8 * k))) s p b.at
-    unfolding more
-    more_next k = run_take s q 1 p _ b eb t ∙ rw (ne_eqb b.value 0 h)
+    module _ (h : b.value ≡ 0 → ⊥) where
+      pub more_last : run (more 0 v) s p q ≡ run (takes 4 λ x. gives (v + x * 2 ^ 60)) s p b.at
+      unfolding more
+      more_last = run_take s q 1 r er p _ b t ∙ rw (ne_eqb b.value 0 h)
 
-    -- at a shift of 12, 20, .. 52
-    module _ (shift : ℕ) (under : shift < 60) (step : shift % 8 ≡ 4) (y : Piece) (ey : y ≡ piece s b.at 8) where
-      left : (60 - shift) / 8 ≡ suc ((60 - (shift + 8)) / 8)
-      left = omega arith
+      more_next : (k : ℕ) → run (more (suc k) v) s p q ≡ run (takes 8 λ x. more k (v + x * 2 ^ (52 - 8 * k))) s p b.at
+      unfolding more
+      more_next k = run_take s q 1 r er p _ b t ∙ rw (ne_eqb b.value 0 h)
 
-      here : 52 - 8 * ((60 - (shift + 8)) / 8) ≡ shift
-      here = omega arith
+      -- the k-th u(8), k from 0 to 5, at a shift of 12, 20, .. 52
+      module _ (k : ℕ) (under : k < 6) (t8 : Option Piece) (e8 : t8 ≡ piece s b.at 8) where
+        left : 6 - k ≡ suc (6 - (k + 1))
+        left = omega arith
 
-      pub more_cut_8 : not y.there ≡ true → run (more ((60 - shift) / 8) v) s p q ≡ cut_at s p (b.at + 8)
-      more_cut_8 ty = rw left (more_next ((60 - (shift + 8)) / 8) ∙ run_cut s b.at 8 p _ y ey ty)
+        here : 52 - 8 * (6 - (k + 1)) ≡ 12 + 8 * k
+        here = omega arith
 
-      pub more_goes : not y.there ≡ false → v < 2 ^ shift
-          → run (more ((60 - shift) / 8) v) s p q ≡ run (more ((60 - (shift + 8)) / 8) (bit_or v (y.value * 2 ^ shift % 18446744073709551616))) s p y.at
-      more_goes ty hv =
-          rw left
-          (more_next ((60 - (shift + 8)) / 8)
-          ∙ run_take s b.at 8 p (λ x. more ((60 - (shift + 8)) / 8) (v + x * 2 ^ (52 - 8 * ((60 - (shift + 8)) / 8)))) y ey ty
-          ∙ ap (λ (n : ℕ). run (more ((60 - (shift + 8)) / 8) (v + y.value * 2 ^ n)) s p y.at) here
-          ∙ ap (λ (n : ℕ). run (more ((60 - (shift + 8)) / 8) n) s p y.at) (sym (joined v y.value shift 8 hv (piece_lt s b.at 8 y ey) (omega arith))))
+        pub more_cut_8 : t8 ≡ None → run (more (6 - k) v) s p q ≡ cut_at s p (b.at + 8)
+        more_cut_8 ty = rw left (more_next (6 - (k + 1)) ∙ run_cut s b.at 8 t8 e8 p _ ty)
 
-      pub more_lt : v < 2 ^ shift → bit_or v (y.value * 2 ^ shift % 18446744073709551616) < 2 ^ (shift + 8)
-      more_lt hv = rw (add_comm shift 8) (joined_lt v y.value shift 8 hv (piece_lt s b.at 8 y ey) (omega arith))
+        module _ (y : Piece) (ty : t8 ≡ Some y) (hv : v < 2 ^ (12 + 8 * k)) where
+          pub more_goes : run (more (6 - k) v) s p q ≡ run (more (6 - (k + 1)) (bit_or v (y.value * 2 ^ (12 + 8 * k) % 18446744073709551616))) s p y.at
+          more_goes =
+              rw left
+              (more_next (6 - (k + 1))
+              ∙ run_take s b.at 8 t8 e8 p (λ x. more (6 - (k + 1)) (v + x * 2 ^ (52 - 8 * (6 - (k + 1))))) y ty
+              ∙ ap (λ (n : ℕ). run (more (6 - (k + 1)) (v + y.value * 2 ^ n)) s p y.at) here
+              ∙ ap (λ (n : ℕ). run (more (6 - (k + 1)) n) s p y.at) (sym (joined v y.value (12 + 8 * k) 8 hv (piece_lt s b.at 8 t8 e8 y ty) (omega arith))))
+
+          pub more_lt : bit_or v (y.value * 2 ^ (12 + 8 * k) % 18446744073709551616) < 2 ^ (12 + 8 * (k + 1))
+          more_lt =
+              let next : 8 + (12 + 8 * k) ≡ 12 + 8 * (k + 1) = omega arith in
+              rw next at (joined_lt v y.value (12 + 8 * k) 8 hv (piece_lt s b.at 8 t8 e8 y ty) (omega arith))
 
 -- the form that the selector names
 module _ (s : List ℕ) (p q k : ℕ) where

@@ -3,7 +3,7 @@ ghost use Rattle.std.specs.Prelude.{◌≡◌};
 ghost use Rattle.bits.specs.Codec.{f16, field};
 ghost use Rattle.bits.specs.Half.{half};
 
-use bits::{Read, Cursor, begin, cut_at, idle, kept, refused_at, take};
+use bits::{Cursor, Read, begin, cut_at, idle, kept, refused_at, take};
 
 // An f16 where it is asked for, as its pattern; exponent 31 is refused.
 pub fn read_f16_if(s: &[u8], c: Cursor, on: bool, default: u32) -> Read<u32>
@@ -16,10 +16,9 @@ pub fn read_f16_if(s: &[u8], c: Cursor, on: bool, default: u32) -> Read<u32>
         };
     }
     let at = c.at;
-    let x = take(s, at, 16);
-    if !x.there {
+    let Some(x) = take(s, at, 16) else {
         return cut_at(s, at, at, 16);
-    }
+    };
     if (x.value >> 10) & 31 == 31 {
         refused_at(6, at)
     } else {

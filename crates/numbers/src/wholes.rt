@@ -6,7 +6,7 @@ ghost use Rattle.bits.specs.Steps.{run, gives, takes, cut_at};
 ghost use Rattle.bits.specs.Codec.{u32, cases, u64, chosen, more, long, field, signed};
 
 use bits::{
-    Choice, Choices, Cursor, Read<u32>, Read<u64>, begin, cut_at, idle, kept, look_ahead, low_bits, reaches,
+    Choice, Choices, Cursor, Read, begin, cut_at, idle, kept, look_ahead, low_bits, reaches,
     refused_at, take,
 };
 
@@ -14,13 +14,12 @@ use bits::{
 fn choose(d: Choices, k: u32) -> Choice
     ensures { result ≡ chosen d k }
 {
-    if k == 0 {
-        return d.d0;
+    match k {
+        0 => d.d0,
+        1 => d.d1,
+        2 => d.d2,
+        _ => d.d3,
     }
-    if k == 1 {
-        return d.d1;
-    }
-    if k == 2 { d.d2 } else { d.d3 }
 }
 
 // Whether a selector is there from p on, and n bits after it, given whether eight bytes are.
@@ -28,10 +27,7 @@ fn u32_is_there(s: &[u8], p: u64, n: u32, whole: bool) -> bool
     requires { whole ≡ (ahead s.now p).whole }
     ensures { result ≡ (there s.now p 2 && there s.now (p + 2) n) }
 {
-    if 32 < n {
-        return false;
-    }
-    if whole { true } else { reaches(s, p, n + 2) }
+    n <= 32 && (whole || reaches(s, p, n + 2))
 }
 
 // A U32 that isn't there: its selector is cut, or the n bits after it.
@@ -62,7 +58,7 @@ pub fn read_u32_if(s: &[u8], c: Cursor, on: bool, d: Choices, default: u32) -> R
         return cut_u32(s, at, e.bits);
     }
     Read {
-        value: std::num::wrapping_add_u32(e.base, low_bits(a.bits >> 2, e.bits)),
+        value: e.base.wrapping_add(low_bits(a.bits >> 2, e.bits)),
         next: begin(at + 2 + (e.bits as u64)),
     }
 }
@@ -105,10 +101,9 @@ fn wide_cut(s: &[u8], p: u64, q: u64, n: u32) -> Read<u64>
 fn short(s: &[u8], p: u64, q: u64, n: u32, base: u32) -> Read<u64>
     ensures { result ≡ run (takes n (λ x. gives (base + x))) s.now p q }
 {
-    let x = take(s, q, n);
-    if !x.there {
+    let Some(x) = take(s, q, n) else {
         return wide_cut(s, p, q, n);
-    }
+    };
     Read {
         value: (base as u64) + (x.value as u64),
         next: begin(x.at),
@@ -120,20 +115,18 @@ fn last(s: &[u8], p: u64, q: u64, v: u64) -> Read<u64>
     requires { v < 2 ^ 60 }
     ensures { result ≡ run (more 0 v) s.now p q }
 {
-    let b = take(s, q, 1);
-    if !b.there {
+    let Some(b) = take(s, q, 1) else {
         return wide_cut(s, p, q, 1);
-    }
+    };
     if b.value == 0 {
         return Read {
             value: v,
             next: begin(b.at),
         };
     }
-    let x = take(s, b.at, 4);
-    if !x.there {
+    let Some(x) = take(s, b.at, 4) else {
         return wide_cut(s, p, b.at, 4);
-    }
+    };
     Read {
         value: v | ((x.value as u64) << 60),
         next: begin(x.at),
@@ -144,31 +137,26 @@ fn last(s: &[u8], p: u64, q: u64, v: u64) -> Read<u64>
 fn longer(s: &[u8], p: u64, q: u64) -> Read<u64>
     ensures { result ≡ run (takes 12 (more 6)) s.now p q }
 {
-    let x = take(s, q, 12);
-    if !x.there {
+    let Some(x) = take(s, q, 12) else {
         return wide_cut(s, p, q, 12);
-    }
+    };
     let mut v = x.value as u64;
     let mut at = x.at;
-    let mut shift: u32 = 12;
-    while shift < 60 {
-        let b = take(s, at, 1);
-        if !b.there {
+    for k in 0..6u32 {
+        let Some(b) = take(s, at, 1) else {
             return wide_cut(s, p, at, 1);
-        }
+        };
         if b.value == 0 {
             return Read {
                 value: v,
                 next: begin(b.at),
             };
         }
-        let y = take(s, b.at, 8);
-        if !y.there {
+        let Some(y) = take(s, b.at, 8) else {
             return wide_cut(s, p, b.at, 8);
-        }
-        v = v | ((y.value as u64) << shift);
+        };
+        v |= (y.value as u64) << (12 + 8 * k);
         at = y.at;
-        shift += 8;
     }
     last(s, p, at, v)
 }
@@ -184,23 +172,18 @@ pub fn read_u64_if(s: &[u8], c: Cursor, on: bool, default: u64) -> Read<u64>
         };
     }
     let at = c.at;
-    let k = take(s, at, 2);
-    if !k.there {
+    let Some(k) = take(s, at, 2) else {
         return wide_cut(s, at, at, 2);
-    }
-    if k.value == 0 {
-        return Read {
+    };
+    match k.value {
+        0 => Read {
             value: 0,
             next: begin(k.at),
-        };
+        },
+        1 => short(s, at, k.at, 4, 1),
+        2 => short(s, at, k.at, 8, 17),
+        _ => longer(s, at, k.at),
     }
-    if k.value == 1 {
-        return short(s, at, k.at, 4, 1);
-    }
-    if k.value == 2 {
-        return short(s, at, k.at, 8, 17);
-    }
-    longer(s, at, k.at)
 }
 
 pub fn read_u64(s: &[u8], c: Cursor) -> Read<u64>

@@ -8,21 +8,21 @@ use Rattle.numbers.proofs.halves.read_f16_if.Goals as goal
 pub returns-then-idle : goal.returns-then-idle
 returns-then-idle c = field_passed c.args.s.now _ _ _ _ _ c.idle.ensures c.if-idle.true _ c.kept.ensures
 
-pub returns-then-not-x : goal.returns-then-not-x
-returns-then-not-x c = c.cut_at.ensures ∙ first_cut c.args.s.now c.args.on f16 _ _ _ c.idle.ensures _ _ refl c.if-idle.false _ c.take-x.ensures c.if-not-x.true
+pub returns-in_default : goal.returns-in_default
+returns-in_default c = c.cut_at.ensures ∙ first_cut c.args.s.now c.args.on f16 _ _ _ c.idle.ensures _ _ refl c.if-idle.false _ c.take.ensures c.in_default.is
 
 pub returns-then-x-eq31 : goal.returns-then-x-eq31
 returns-then-x-eq31 c =
     c.refused_at.ensures
     ∙ sym (
-    first_taken c.args.s.now c.args.on f16 _ _ _ c.idle.ensures _ _ refl c.if-idle.false _ c.take-x.ensures c.if-not-x.false
-    ∙ half_bad c.args.s.now _ c.take-x.result.at c.take-x.result.value c.if-x-eq31.true
+    first_taken c.args.s.now c.args.on f16 _ _ _ c.idle.ensures _ _ refl c.if-idle.false _ c.take.ensures c.in-Some.x c.in-Some.is
+    ∙ half_bad c.args.s.now _ c.in-Some.x.at c.in-Some.x.value c.if-x-eq31.true
     )
 
 pub returns-else-x-eq31 : goal.returns-else-x-eq31
 returns-else-x-eq31 c =
     given c.args.s.now c.args.c.at _ _ _ _ refl c.begin.ensures
     ∙ sym (
-    first_taken c.args.s.now c.args.on f16 _ _ _ c.idle.ensures _ _ refl c.if-idle.false _ c.take-x.ensures c.if-not-x.false
-    ∙ half_good c.args.s.now _ c.take-x.result.at c.take-x.result.value c.if-x-eq31.false
+    first_taken c.args.s.now c.args.on f16 _ _ _ c.idle.ensures _ _ refl c.if-idle.false _ c.take.ensures c.in-Some.x c.in-Some.is
+    ∙ half_good c.args.s.now _ c.in-Some.x.at c.in-Some.x.value c.if-x-eq31.false
     )

@@ -1,6 +1,6 @@
 -- `skip_bits_if`: passed by, past the end, or within it.
 use Rattle.bits.specs.declared.Read.{Read}
-use Rattle.std.proofs.Common.{◌≡◌, sym, ap, ◌∙◌, arith}
+use Rattle.std.proofs.Common.{◌≡◌, sym, ap, ◌∙◌, arith, ℕ}
 use Rattle.bits.specs.Codec.{skip}
 use Rattle.bits.specs.Extensions.{whole}
 use Rattle.bits.proofs.Steps.{field_idle}

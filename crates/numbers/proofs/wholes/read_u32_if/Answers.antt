@@ -38,7 +38,7 @@ returns c =
     let narrow = (u32_parts a.s.now a.c.at e.bits _ c.u32_is_there.ensures (not_from_true _ c.if-not-u32_is_there.false)).0 in
     let bits = peeked_after a.s.now a.c.at 2 e.bits _ _ narrow (omega (arith, narrow)) (ap (λ (w : Ahead). w.bits) c.look_ahead-a.ensures) c.low_bits-2.ensures in
     u32_read a.s.now a.c.at a.d _ (peeked a.s.now a.c.at 2 _ _ (omega arith) (ap (λ (w : Ahead). w.bits) c.look_ahead-a.ensures) c.low_bits.ensures) _ c.choose-e.ensures _ c.u32_is_there.ensures _ _ _ (not_from_true _ c.if-not-u32_is_there.false)
-    (c.wrapping_add_u32.ensures.value ∙ ap (λ (x : ℕ). (e.base + x) % 2 ^ 32) bits)
+    (ap (λ (x : ℕ). (e.base + x) % 2 ^ 32) bits)
     refl
     c.begin.ensures
     ∙ sym (field_run a.s.now a.on (u32 a.d) _ _ _ c.idle.ensures c.if-idle.false)

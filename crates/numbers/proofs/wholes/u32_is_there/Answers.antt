@@ -5,14 +5,8 @@ use Rattle.bits.proofs.Codecs.{u32_narrow, u32_wide}
 use Rattle.bits.proofs.Windows.{whole_reaches}
 use Rattle.numbers.proofs.wholes.u32_is_there.Goals as goal
 
-pub returns-then-n-gt32 : goal.returns-then-n-gt32
-returns-then-n-gt32 c = u32_wide c.args.s.now _ _ c.if-n-gt32.true
-
 pub returns-then-whole : goal.returns-then-whole
 returns-then-whole c =
     let a = c.args in
-    let ends = whole_reaches a.s.now a.p (a.n + 2) a.whole c.requires c.if-whole.true (omega (arith, c.if-n-gt32.false)) in
-    sym (le-leb (a.p + (a.n + 2)) (bit_count a.s.now) ends) ∙ u32_narrow a.s.now _ _ c.if-n-gt32.false
-
-pub returns-else-whole : goal.returns-else-whole
-returns-else-whole c = c.reaches.ensures ∙ u32_narrow c.args.s.now _ _ c.if-n-gt32.false
+    let ends = whole_reaches a.s.now a.p (a.n + 2) a.whole c.requires c.if-whole.true (omega (arith, c.if-n-le32.true)) in
+    c.if-whole.true ∙ sym (le-leb (a.p + (a.n + 2)) (bit_count a.s.now) ends) ∙ u32_narrow a.s.now _ _ c.if-n-le32.true
