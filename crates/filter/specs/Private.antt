@@ -1,6 +1,6 @@
 -- What private functions promise. Nothing that a caller is promised names these.
 use Rattle.bits.specs.declared.Read.{Read}
-use Rattle.std.specs.Prelude.{List, Float}
+use Rattle.std.specs.Prelude.{List, Float, ℕ}
 use Rattle.filter.specs.declared.settings.EpfSigma.{EpfSigma}
 use Rattle.bits.specs.Half.{half}
 use Rattle.filter.specs.declared.gabor.Channel.{Channel}
