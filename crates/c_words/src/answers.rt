@@ -44,6 +44,6 @@ pub fn give(r: Refusal, values: &[u64], out: &mut [u64]) -> u64
     if refusal.number != 0 {
         return status(refusal);
     }
-    fill::fill_u64(out, 0, values);
+    fill::fill(out, 0, values);
     status(refusal)
 }

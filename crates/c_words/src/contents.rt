@@ -29,7 +29,7 @@ pub fn give_toc(t: TocRead, out: &mut [u64]) -> u64
     match t {
         TocRead::Table(toc) => {
             let words = [toc.count as u64, toc.bookmark, toc.total_byte_size];
-            fill::fill_u64(out, 0, &words);
+            fill::fill(out, 0, &words);
             0
         }
         TocRead::OrderNeeded(place) => (place % 72057594037927936) * 256 + 255,

@@ -122,9 +122,9 @@ fn give_front(a: HeaderAnswer, out: &mut [u64])
     let h = a.header;
     let flags = h.flags;
     let front = front_words(h);
-    fill::put_u64(out, 0, a.end);
-    fill::put_u64(out, 1, flags.0);
-    fill::widen_u32(out, 2, &front);
+    fill::put(out, 0, a.end);
+    fill::put(out, 1, flags.0);
+    fill::widen(out, 2, &front);
 }
 
 // Words 12 to 32: the arrays.
@@ -134,10 +134,10 @@ fn give_arrays(jpeg: [u32; 3], passes: Passes, out: &mut [u64])
     let shift = passes.shift;
     let downsample = passes.downsample;
     let last_pass = passes.last_pass;
-    fill::widen_u32(out, 12, &jpeg);
-    fill::widen_u32(out, 15, &shift);
-    fill::widen_u32(out, 25, &downsample);
-    fill::widen_u32(out, 29, &last_pass);
+    fill::widen(out, 12, &jpeg);
+    fill::widen(out, 15, &shift);
+    fill::widen(out, 25, &downsample);
+    fill::widen(out, 29, &last_pass);
 }
 
 // The record's words, all 51.
@@ -150,7 +150,7 @@ fn give_words(a: HeaderAnswer, out: &mut [u64])
     let back = back_words(h);
     give_front(a, out);
     give_arrays(jpeg, passes, out);
-    fill::widen_u32(out, 33, &back);
+    fill::widen(out, 33, &back);
 }
 
 // The filters' values: six weights, eight sharpness values, three channel scales, four sigma values and the modular sigma.
@@ -170,10 +170,10 @@ fn give_floats(f: RestorationFilter, out: &mut [f32])
         params.border_sad_mul,
         params.sigma_for_modular,
     ];
-    fill::fill_f32(out, 0, &weights);
-    fill::fill_f32(out, 6, &sharp);
-    fill::fill_f32(out, 14, &scale);
-    fill::fill_f32(out, 17, &last);
+    fill::fill(out, 0, &weights);
+    fill::fill(out, 6, &sharp);
+    fill::fill(out, 14, &scale);
+    fill::fill(out, 17, &last);
 }
 
 // Whether the record's three slices are long enough.
@@ -187,8 +187,8 @@ pub fn has_room(words: usize, signed: usize, floats: usize) -> bool
 fn give_signed(h: FrameHeader, out: &mut [i32])
     ensures { out.new ≡ signed_after (numbers_of h) out.old }
 {
-    fill::put_i32(out, 0, h.x0);
-    fill::put_i32(out, 1, h.y0);
+    fill::put(out, 0, h.x0);
+    fill::put(out, 1, h.y0);
 }
 
 // What is refused where one of the record's slices is too short: 2, 1, 3.

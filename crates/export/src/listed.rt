@@ -17,7 +17,7 @@ fn give_length(a: TextAnswer, out: &mut [u64]) -> u64
     if refusal.number != 0 {
         return status(refusal);
     }
-    fill::put_u64(out, 0, a.length as u64);
+    fill::put(out, 0, a.length as u64);
     status(refusal)
 }
 

@@ -15,6 +15,7 @@ use Rattle.bits.specs.declared.Read.{Read}
 use Rattle.bits.specs.declared.Cursor.{Cursor}
 use Rattle.bits.specs.declared.pieces.Piece.{Piece}
 use mathlib.Core.Bool.{Bool, true, false, not, ◌&&◌, false≢true}
+use Rattle.std.proofs.Common.{Option, Some, None}
 use Rattle.bits.specs.Refusals.{pick, start, clear}
 use Rattle.bits.specs.Bits.{bits_at, bit_count, there}
 use Rattle.bits.specs.Steps.{cut, cut_at, run, piece}
@@ -124,35 +125,34 @@ pub record Four (s : List ℕ) (c : Cursor) (left : ℕ) (x : Piece) : Type 0 wh
   pub value : x.value ≡ bits_at s c.at 32
   pub next : x.at ≡ c.at + 32
 
-four_by : (s : List ℕ) (c : Cursor) (left : ℕ) (x : Piece) (a b t : Bool) → leb 4 left ≡ a → clear c ≡ b → there s c.at 32 ≡ t
-    → x ≡ pick (a && b) (piece s c.at 32) (record { there = false; value = 0; at = c.at }) → x.there ≡ true → Four s c left x
+four_by : (s : List ℕ) (c : Cursor) (left : ℕ) (r : Option Piece) (x : Piece) (a b t : Bool) → leb 4 left ≡ a → clear c ≡ b → there s c.at 32 ≡ t
+    → r ≡ pick (a && b) (piece s c.at 32) None → r ≡ Some x → Four s c left x
 unfolding piece
-four_by s c left x true true true ea eb et ex h =
-    let is : x ≡ record { there = true; value = bits_at s c.at 32; at = c.at + 32 } = ex ∙ rw et refl in
+four_by s c left r x true true true ea eb et er h =
+    let is : ◌≡◌ {A = Option Piece} r (Some (record { value = bits_at s c.at 32; at = c.at + 32 })) = er ∙ rw et refl in
+    let same : ◌≡◌ {A = Piece} x (record { value = bits_at s c.at 32; at = c.at + 32 }) = cc in
     record {
       wanted = leb-true 4 left ea;
       fine = eb;
       room = (there_parts s c.at 32 et).1;
-      value = ap (λ (y : Piece). y.value) is;
-      next = ap (λ (y : Piece). y.at) is;
+      value = ap (λ (y : Piece). y.value) same;
+      next = ap (λ (y : Piece). y.at) same;
     }
-four_by s c left x true true false ea eb et ex h =
-    let is : x ≡ record { there = false; value = 0; at = c.at } = ex ∙ rw et refl in
-    absurd (false≢true (sym (ap (λ (y : Piece). y.there) is) ∙ h))
-four_by s c left x true false t ea eb et ex h = absurd (false≢true (sym (ap (λ (y : Piece). y.there) ex) ∙ h))
-four_by s c left x false b t ea eb et ex h = absurd (false≢true (sym (ap (λ (y : Piece). y.there) ex) ∙ h))
+four_by s c left r x true true false ea eb et er h = let none : r ≡ None = er ∙ rw et refl in absurd cc
+four_by s c left r x true false t ea eb et er h = absurd cc
+four_by s c left r x false b t ea eb et er h = absurd cc
 
 -- what was not taken, and what was
 module _ (s : List ℕ) (c : Cursor) (left : ℕ) (i : Bool) (e : i ≡ not (leb 4 left && clear c)) where
-  pub four_idle : i ≡ true → ◌≡◌ {A = Piece} (record { there = false; value = 0; at = c.at }) (pick (leb 4 left && clear c) (piece s c.at 32) (record { there = false; value = 0; at = c.at }))
+  pub four_idle : i ≡ true → ◌≡◌ {A = Option Piece} None (pick (leb 4 left && clear c) (piece s c.at 32) None)
   four_idle h = rw (not-true (leb 4 left && clear c) (sym e ∙ h)) refl
 
-  pub four_taken : i ≡ false → (x : Piece) → x ≡ piece s c.at 32 → x ≡ pick (leb 4 left && clear c) (piece s c.at 32) (record { there = false; value = 0; at = c.at })
-  four_taken h x ex = rw (not-false (leb 4 left && clear c) (sym e ∙ h)) ex
+  pub four_taken : i ≡ false → (r : Option Piece) → r ≡ piece s c.at 32 → r ≡ pick (leb 4 left && clear c) (piece s c.at 32) None
+  four_taken h r er = rw (not-false (leb 4 left && clear c) (sym e ∙ h)) er
 
-pub four_there : (s : List ℕ) (c : Cursor) (left : ℕ) (x : Piece) → x ≡ pick (leb 4 left && clear c) (piece s c.at 32) (record { there = false; value = 0; at = c.at })
-    → x.there ≡ true → Four s c left x
-four_there s c left x = four_by s c left x (leb 4 left) (clear c) (there s c.at 32) refl refl refl
+pub four_there : (s : List ℕ) (c : Cursor) (left : ℕ) (r : Option Piece) → r ≡ pick (leb 4 left && clear c) (piece s c.at 32) None → (x : Piece) → r ≡ Some x
+    → Four s c left x
+four_there s c left r er x = four_by s c left r x (leb 4 left) (clear c) (there s c.at 32) refl refl refl er
 
 module _ (count : ℕ) (s before : List ℕ) (c : Cursor) where
   -- one byte more, of four that begin at p

@@ -16,6 +16,10 @@ use Rattle.bits.proofs.Columns.{times_any}
 use Rattle.filter.specs.Filter.{restoration}
 use Rattle.header.specs.declared.Facts.{Facts}
 use Rattle.header.specs.declared.opening.Opening.{Opening}
+use Rattle.header.specs.declared.shape.Scales.{Scales}
+use Rattle.header.specs.declared.shape.Passes.{Passes}
+use Rattle.filter.specs.declared.RestorationFilter.{RestorationFilter}
+use Rattle.header.specs.declared.closing.Closing.{Closing}
 use Rattle.header.specs.declared.shape.Placement.{Placement}
 use Rattle.header.specs.declared.blending.Blending.{Blending}
 use Rattle.header.specs.Arrays.{array}

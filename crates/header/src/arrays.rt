@@ -9,7 +9,7 @@ ghost use Rattle.header.specs.Arrays.{array};
 ghost use Rattle.header.specs.Private.{Arrayed};
 
 use bits::{Choices, Cursor, Piece, begin, bit_count, cut_at, idle, read_bits, read_bits_if, take};
-use fill::{put_u8, put_u32};
+use fill::put;
 use numbers::read_u32_if;
 
 // count numbers of n bits each, of which the first limit stand there.
@@ -29,7 +29,7 @@ pub fn read_bits_array(
     while i < count {
         let f = read_bits_if(s, at, i < limit, n, default);
         let k = i as usize;
-        put_u32(out, k, f.value);
+        put(out, k, f.value);
         at = f.next;
         i += 1;
     }
@@ -53,7 +53,7 @@ pub fn read_u32_array(
     while i < count {
         let f = read_u32_if(s, at, i < limit, d, default);
         let k = i as usize;
-        put_u32(out, k, f.value);
+        put(out, k, f.value);
         at = f.next;
         i += 1;
     }
@@ -77,18 +77,13 @@ fn byte_of(x: u32, shift: u32) -> u8
 }
 
 // Four bytes at once, where four are left to read and there.
-fn take_four(s: &[u8], c: Cursor, left: u32) -> Piece
-    ensures { result ≡ pick (leb 4 left && clear c) (piece s.now c.at 32) (record { there = false; value = 0; at = c.at }) }
+fn take_four(s: &[u8], c: Cursor, left: u32) -> Option<Piece>
+    ensures { result ≡ pick (leb 4 left && clear c) (piece s.now c.at 32) None }
 {
-    let at = c.at;
     if idle(c, 4 <= left) {
-        return Piece {
-            there: false,
-            value: 0,
-            at,
-        };
+        return None;
     }
-    take(s, at, 32)
+    take(s, c.at, 32)
 }
 
 // count bytes, four at once as long as there are four.
@@ -98,19 +93,18 @@ pub fn read_bytes(s: &[u8], c: Cursor, count: u32, out: &mut [u8]) -> Cursor
     let mut at = c;
     let mut i: u32 = 0;
     while i < count {
-        let x = take_four(s, at, count - i);
         let k = i as usize;
-        if x.there {
-            put_u8(out, k, byte_of(x.value, 0));
-            put_u8(out, k + 1, byte_of(x.value, 8));
-            put_u8(out, k + 2, byte_of(x.value, 16));
-            put_u8(out, k + 3, byte_of(x.value, 24));
+        if let Some(x) = take_four(s, at, count - i) {
+            put(out, k, byte_of(x.value, 0));
+            put(out, k + 1, byte_of(x.value, 8));
+            put(out, k + 2, byte_of(x.value, 16));
+            put(out, k + 3, byte_of(x.value, 24));
             at = begin(x.at);
             i += 4;
         } else {
             let f = read_bits(s, at, 8);
             let b = byte(f.value);
-            put_u8(out, k, b);
+            put(out, k, b);
             at = f.next;
             i += 1;
         }

@@ -8,11 +8,11 @@ ghost use Rattle.header.specs.Blending.{modes, alphas, covers_side, covers_image
 
 use crate::Facts;
 use crate::shape::Placement;
-use bits::{Read, 
-    Choice, Choices, Cursor, Seen, View, begin, both, either, idle, kept, look_ahead, one_of,
+use bits::{
+    Choice, Choices, Cursor, Read, Seen, View, begin, both, either, idle, kept, look_ahead, one_of,
     read_bits_if, read_bool_if, see, see_choice,
 };
-use fill::put_u32;
+use fill::put;
 use numbers::{read_enum_if, read_u32_if};
 use types::BlendMode;
 
@@ -203,10 +203,10 @@ pub fn read_extra_blending(
         let b = read_blending_if(s, at, on, true, full, d);
         let v = b.value;
         let k = (i as usize) * 4;
-        put_u32(out, k, v.mode);
-        put_u32(out, k + 1, v.alpha_channel);
-        put_u32(out, k + 2, v.clamp);
-        put_u32(out, k + 3, v.source);
+        put(out, k, v.mode);
+        put(out, k + 1, v.alpha_channel);
+        put(out, k + 2, v.clamp);
+        put(out, k + 3, v.source);
         at = kept(b.next);
         i += 1;
     }

@@ -6,7 +6,7 @@ ghost use Rattle.header.specs.Closing.{durations, name_lengths, closing};
 use crate::Facts;
 use crate::opening::Opening;
 use crate::shape::either_number;
-use bits::{Read, Choices, Cursor, both, either, one_of, read_bits_if, read_bool_if};
+use bits::{Choices, Cursor, Read, both, either, one_of, read_bits_if, read_bool_if};
 use numbers::read_u32_if;
 
 #[derive(Clone, Copy)]

@@ -15,7 +15,7 @@ use crate::parts::{
 use crate::shape::{Passes, either_number};
 use crate::{Facts, FrameHeader};
 use bits::{Refusal, accepted, begin, both, read_bool, refused};
-use fill::fill_u32;
+use fill::fill;
 use filter::{RestorationFilter, disabled_filter};
 use numbers::unpack_signed;
 use types::{BlendMode, Encoding, FrameFlags, FrameType};
@@ -215,8 +215,8 @@ fn give_channels(
     if f.extra <= 8 {
         let n = f.extra as usize;
         let m = 4 * n;
-        fill_u32(upsampling, 0, &ups[..n]);
-        fill_u32(blending, 0, &channels[..m]);
+        fill(upsampling, 0, &ups[..n]);
+        fill(blending, 0, &channels[..m]);
         return;
     }
     let front = a.value;

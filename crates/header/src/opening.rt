@@ -4,7 +4,7 @@ ghost use Rattle.bits.specs.Table.{read};
 ghost use Rattle.header.specs.Opening.{opening, upsamplings};
 
 use crate::Facts;
-use bits::{Read, Choices, Cursor, both, one_of, read_bits_if, read_bool_if};
+use bits::{Choices, Cursor, Read, both, one_of, read_bits_if, read_bool_if};
 use numbers::{read_u32_if, read_u64_if};
 use types::FrameFlags;
 

@@ -7,7 +7,7 @@ ghost use Rattle.header.specs.Shape.{pass_counts, downsamples, last_passes, plac
 use crate::Facts;
 use crate::arrays::{read_bits_array, read_u32_array};
 use crate::opening::{Opening, upsampling_choices};
-use bits::{Read, Choices, Cursor, both, one_of, read_bits_if, read_bool_if};
+use bits::{Choices, Cursor, Read, both, one_of, read_bits_if, read_bool_if};
 use numbers::read_u32_if;
 
 #[derive(Clone, Copy)]

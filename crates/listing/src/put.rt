@@ -10,7 +10,7 @@ pub fn put_bytes(out: &mut [u8], at: usize, text: &[u8]) -> usize
     requires text_len_bound { length text.now ≤ 4096 }
     ensures { Put out.old at text.now out.new result }
 {
-    fill::fill_u8(out, at, text);
+    fill::fill(out, at, text);
     at + text.len()
 }
 
@@ -19,7 +19,7 @@ pub fn put_feed(out: &mut [u8], at: usize) -> usize
     requires { at ≤ 4611686018427387904 }
     ensures { Put out.old at (10 ∷ []) out.new result }
 {
-    fill::put_u8(out, at, 10);
+    fill::put(out, at, 10);
     at + 1
 }
 
@@ -41,7 +41,7 @@ pub fn put_column(out: &mut [u8], at: usize, shown: bool, n: u64) -> usize
     if !shown {
         return put_bytes(out, at, b"\t-");
     }
-    fill::put_u8(out, at, 9);
+    fill::put(out, at, 9);
     put_number(out, at + 1, n)
 }
 

@@ -40,7 +40,7 @@ fn read_line(s: &[u8], limits: &[u64], values: &mut [u64]) -> LineEnd
     while i < limits.len() {
         let n = decimal::number_at(s, at, stop_of(i + 1, limits.len()), limits[i]);
         good = bits::both(good, n.good);
-        fill::put_u64(values, i, n.value);
+        fill::put(values, i, n.value);
         at = n.next;
         i += 1;
     }

@@ -27,7 +27,7 @@ fn list_table(
     ensures { Texted (listing_refusal f offsets.now sizes.now (take (min count (length order.now)) order.now) out.old)
         (listing f offsets.now sizes.now (take (min count (length order.now)) order.now)) out.old result out.new }
 {
-    let n = fill::least(count as usize, order.len());
+    let n = (count as usize).min(order.len());
     listing::write_listing(f, offsets, sizes, &order[..n], out)
 }
 
@@ -75,7 +75,7 @@ fn list_header(s: &[u8], facts: Facts, out: &mut [u8]) -> TextAnswer
 fn list_bytes(rest: &[u8], facts: Facts, out: &mut [u8]) -> TextAnswer
     ensures { Texted (fitted (header_text (take 32768 rest.now) facts) out.old) (header_text (take 32768 rest.now) facts) out.old result out.new }
 {
-    let n = fill::least(32768, rest.len());
+    let n = 32768.min(rest.len());
     list_header(&rest[..n], facts, out)
 }
 

@@ -30,21 +30,21 @@ pub fn room_bytes(bytes: &[u8], n: u32) -> usize
     ensures value { result ≡ min n (length bytes.now) }
     ensures in_bounds { IsPrefixLen result bytes.now }
 {
-    fill::least(n as usize, bytes.len())
+    (n as usize).min(bytes.len())
 }
 
 pub fn room_words(words: &[u32], n: u32) -> usize
     ensures value { result ≡ min n (length words.now) }
     ensures in_bounds { IsPrefixLen result words.now }
 {
-    fill::least(n as usize, words.len())
+    (n as usize).min(words.len())
 }
 
 pub fn room_longs(longs: &[u64], n: u32) -> usize
     ensures value { result ≡ min n (length longs.now) }
     ensures in_bounds { IsPrefixLen result longs.now }
 {
-    fill::least(n as usize, longs.len())
+    (n as usize).min(longs.len())
 }
 
 // The numbers of a record from an index on.
@@ -55,7 +55,7 @@ pub fn put_words(out: &mut [u32], s: &[u8], at: u32, n: u32)
     let end = n as usize;
     let mut i: usize = 0;
     while i < end {
-        fill::put_u32(out, i, number(s, start + 4 * i));
+        fill::put(out, i, number(s, start + 4 * i));
         i += 1;
     }
 }
@@ -66,7 +66,7 @@ pub fn reversed(out: &mut [u32], n: u32)
 {
     let mut i: u32 = 0;
     while i < n {
-        fill::put_u32(out, i as usize, n - 1 - i);
+        fill::put(out, i as usize, n - 1 - i);
         i += 1;
     }
 }

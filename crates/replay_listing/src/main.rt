@@ -47,7 +47,7 @@ fn work(lines: &mut Output, s: &[u8], out: &mut [u8]) {
     let length = a.length;
     replay::show(lines, length as u64);
     replay::refusal(lines, a.refusal);
-    let n = fill::least(length, out.len());
+    let n = length.min(out.len());
     replay::show(lines, replay::sum_bytes(false, 0, &out[n..]));
     replay::end(lines);
     lines.text(&out[0..n]);

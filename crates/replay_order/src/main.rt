@@ -41,7 +41,7 @@ fn make(r: &[u8], p: Numbers, entries: &mut [u32]) {
         return;
     }
     replay::reversed(entries, p.b);
-    fill::put_u32(entries, replay::word(r, 20) as usize, replay::word(r, 24));
+    fill::put(entries, replay::word(r, 20) as usize, replay::word(r, 24));
 }
 
 fn act(out: &mut Output, count: u32, number: u32, entries: &[u32], table: &mut [u32]) {

@@ -31,7 +31,7 @@ fn record(out: &mut Output, r: &[u8]) {
     }
     let mut bytes = replay::bytes(0);
     let mut lent = replay::table(0);
-    fill::fill_u8(&mut bytes, 0, &r[128..192]);
+    fill::fill(&mut bytes, 0, &r[128..192]);
     ruled(replay::word(r, 44), &mut bytes);
     make_order(r, &mut lent);
     let n = replay::room_bytes(&bytes, replay::word(r, 40));
@@ -46,7 +46,7 @@ fn ruled(step: u32, bytes: &mut [u8]) {
     }
     let mut i: u32 = 0;
     while i < 270000 {
-        fill::put_u8(bytes, i as usize, low(i, step));
+        fill::put(bytes, i as usize, low(i, step));
         i += 1;
     }
 }

@@ -9,7 +9,7 @@ ghost use Rattle.toc.specs.Private.{order_by};
 fn identity_into(table: &mut [u32], count: u32)
     ensures { table.new ≡ filled (identity count) table.old }
 {
-    let end = fill::least(count as usize, table.len());
+    let end = (count as usize).min(table.len());
     let mut i: usize = 0;
     while i < end {
         table[i] = i as u32;
@@ -21,8 +21,8 @@ fn identity_into(table: &mut [u32], count: u32)
 fn order_into(order: &[u32], count: u32, table: &mut [u32])
     ensures { table.new ≡ filled (take count order.now) table.old }
 {
-    let end = fill::least(count as usize, order.len());
-    fill::fill_u32(table, 0, &order[..end]);
+    let end = (count as usize).min(order.len());
+    fill::fill(table, 0, &order[..end]);
 }
 
 // Each of the order's first count sections is written at its sent number: for an order that was checked, the inverse.
@@ -35,7 +35,7 @@ fn inverse_into(order: &[u32], count: u32, inverse: &mut [u32])
         if order.len() <= i {
             return;
         }
-        fill::put_u32(inverse, order[i] as usize, j);
+        fill::put(inverse, order[i] as usize, j);
         j += 1;
     }
 }

@@ -203,18 +203,18 @@ fn fill_sizes(
         let section = inverse[i] as usize;
         if p.there {
             let other = inverse[i + 1] as usize;
-            fill::put_u64(offsets, section, offset);
-            fill::put_u32(sizes, section, p.first);
+            fill::put(offsets, section, offset);
+            fill::put(sizes, section, p.first);
             offset += p.first as u64;
-            fill::put_u64(offsets, other, offset);
-            fill::put_u32(sizes, other, p.second);
+            fill::put(offsets, other, offset);
+            fill::put(sizes, other, p.second);
             offset += p.second as u64;
             at = bits::begin(p.at);
             k += 2;
         } else {
             let x = read_size(s, at);
-            fill::put_u64(offsets, section, offset);
-            fill::put_u32(sizes, section, x.value);
+            fill::put(offsets, section, offset);
+            fill::put(sizes, section, x.value);
             at = x.next;
             offset += x.value as u64;
             k += 1;

@@ -3,4 +3,4 @@ use Rattle.c_words.proofs.Recording.{front_put}
 use Rattle.c_words.proofs.heads.give_front.Goals as goal
 
 pub returns : goal.returns
-returns c = front_put c.args.a _ c.args.out.now _ _ _ c.front_words-front.ensures c.put_u64.ensures c.put_u64-2.ensures c.widen_u32.ensures
+returns c = front_put c.args.a _ c.args.out.now _ _ _ c.front_words-front.ensures c.put.ensures c.put-2.ensures c.widen.ensures

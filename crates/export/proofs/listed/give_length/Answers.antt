@@ -7,4 +7,4 @@ returns-then-refusal-ne0 c = (c.status.ensures, length_refused c.args.a c.args.o
 
 pub returns : goal.returns
 returns c =
-    (c.status-2.ensures, length_given c.args.a c.args.out.now _ c.if-refusal-ne0.false c.put_u64.ensures)
+    (c.status-2.ensures, length_given c.args.a c.args.out.now _ c.if-refusal-ne0.false c.put.ensures)

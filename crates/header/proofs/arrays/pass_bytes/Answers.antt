@@ -1,4 +1,5 @@
 -- `pass_bytes`: nothing to pass, or the bytes are there, or some aren't.
+use Prim.Native.Nat.{ℕ}
 use mathlib.Core.Path.{ap}
 use Rattle.bits.specs.declared.Read.{Read}
 use Rattle.header.proofs.Walks.{passed_idle, passed_past, passed_there, passed_cut}

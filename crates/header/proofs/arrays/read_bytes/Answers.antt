@@ -10,23 +10,18 @@ use Rattle.header.proofs.arrays.read_bytes.Goals as goal
 pub loop-i-init : goal.loop-i-init
 loop-i-init c = left_none (u 8) c.args.count c.args.count 0 c.args.s.now c.args.out.now c.args.c
 
-pub overflow_add-i : goal.overflow_add-i
-overflow_add-i c = omega (arith, (four_there c.args.s.now c.loop-i.at (c.args.count - c.loop-i.i) c.take_four-x.result c.take_four-x.ensures c.if-x.true).wanted, c.loop-i.invariant.within, c.ranges)
-
-pub loop-i-smaller-then-x : goal.loop-i-smaller-then-x
-loop-i-smaller-then-x c = omega (arith, (four_there c.args.s.now c.loop-i.at (c.args.count - c.loop-i.i) c.take_four-x.result c.take_four-x.ensures c.if-x.true).wanted, c.loop-i-test.true)
-
-pub loop-i-preserved-then-x : goal.loop-i-preserved-then-x
-loop-i-preserved-then-x c = left_four c.args.count c.args.s.now c.args.out.now c.args.c c.loop-i.out c.loop-i.at c.loop-i.i c.loop-i.invariant c.take_four-x.result (four_there c.args.s.now c.loop-i.at (c.args.count - c.loop-i.i) c.take_four-x.result c.take_four-x.ensures c.if-x.true) _ _ _ _ _ _ _ _ _ c.byte_of.ensures c.byte_of-then-x.ensures c.byte_of-then-x-2.ensures c.byte_of-then-x-3.ensures c.put_u8.ensures c.put_u8-then-x.ensures c.put_u8-then-x-2.ensures c.put_u8-then-x-3.ensures c.begin-at.ensures
+pub loop-i-preserved-in-Some : goal.loop-i-preserved-in-Some
+loop-i-preserved-in-Some c =
+    left_four c.args.count c.args.s.now c.args.out.now c.args.c c.loop-i.out c.loop-i.at c.loop-i.i c.loop-i.invariant c.in-Some.x
+    (four_there c.args.s.now c.loop-i.at (c.args.count - c.loop-i.i) c.take_four.result c.take_four.ensures c.in-Some.x c.in-Some.is) _ _ _ _ _ _ _ _ _
+    c.byte_of.ensures c.byte_of-in-Some.ensures c.byte_of-in-Some-2.ensures c.byte_of-in-Some-3.ensures c.put.ensures c.put-in-Some.ensures c.put-in-Some-2.ensures c.put-in-Some-3.ensures
+    c.begin-at.ensures
 
 pub byte-b-requires : goal.byte-b-requires
 byte-b-requires c = byte_lt c.args.s.now _ _ c.read_bits-f.ensures
 
 pub loop-i-preserved : goal.loop-i-preserved
-loop-i-preserved c = left_more (u 8) c.args.count c.args.count 0 c.args.s.now c.args.out.now c.args.c c.loop-i.out c.loop-i.at c.loop-i.i c.loop-i.invariant c.loop-i-test.true c.read_bits-f.result _ _ (c.read_bits-f.ensures ∙ rw (← lt-ltb c.loop-i.i c.args.count c.loop-i-test.true)) c.byte-b.ensures c.put_u8-else-x.ensures
-
-pub shape_of-out : goal.shape_of-out
-shape_of-out c = c.loop-i.invariant.words.size
+loop-i-preserved c = left_more (u 8) c.args.count c.args.count 0 c.args.s.now c.args.out.now c.args.c c.loop-i.out c.loop-i.at c.loop-i.i c.loop-i.invariant c.loop-i-test.true c.read_bits-f.result _ _ (c.read_bits-f.ensures ∙ rw (← lt-ltb c.loop-i.i c.args.count c.loop-i-test.true)) c.byte-b.ensures c.put-in_default.ensures
 
 pub returns : goal.returns
 returns c = left_all (u 8) c.args.count c.args.count 0 c.args.s.now c.args.out.now c.args.c c.loop-i.out c.loop-i.at c.loop-i.i c.loop-i.invariant c.loop-i-test.false

@@ -5,7 +5,6 @@ use Rattle.header.proofs.blending.read_blending_fields.Goals as goal
 
 pub returns : goal.returns
 returns c =
-    
     (blending_law c.args.s.now c.args.c c.args.on c.args.extra c.args.full c.args.d _ _ _ _ _
     (c.read_enum_if-m.ensures ∙ rw c.mode_choices.ensures)
     (c.read_u32_if-a.ensures ∙ rw (c.both-alpha.ensures, c.either.ensures, c.alpha_choices.ensures))

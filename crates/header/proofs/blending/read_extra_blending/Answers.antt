@@ -10,7 +10,7 @@ pub overflow_add-i : goal.overflow_add-i
 overflow_add-i c = omega (arith, c.loop-i-test.true, c.ranges)
 
 pub loop-i-preserved : goal.loop-i-preserved
-loop-i-preserved c = rw c.kept-at-in-loop-i.ensures (blending_more c.args.on c.args.n c.args.full c.args.d c.args.s.now c.args.out.now c.kept-at.result c.loop-i.out c.loop-i.at c.loop-i.i c.loop-i.invariant c.loop-i-test.true _ _ _ _ _ c.read_blending_if-b.ensures c.put_u32.ensures c.put_u32-in-loop-i.ensures c.put_u32-in-loop-i-2.ensures c.put_u32-in-loop-i-3.ensures)
+loop-i-preserved c = rw c.kept-at-in-loop-i.ensures (blending_more c.args.on c.args.n c.args.full c.args.d c.args.s.now c.args.out.now c.kept-at.result c.loop-i.out c.loop-i.at c.loop-i.i c.loop-i.invariant c.loop-i-test.true _ _ _ _ _ c.read_blending_if-b.ensures c.put.ensures c.put-in-loop-i.ensures c.put-in-loop-i-2.ensures c.put-in-loop-i-3.ensures)
 
 pub shape_of-out : goal.shape_of-out
 shape_of-out c = c.loop-i.invariant.content.size

@@ -5,7 +5,6 @@ use Rattle.header.proofs.closing.read_closing.Goals as goal
 
 pub returns : goal.returns
 returns c =
-    
     (closing_law c.args.s.now c.args.c c.args.f c.args.o c.args.resets _ _ _ _ _ _ _ _
     (c.read_u32_if-duration.ensures ∙ rw (c.both.ensures, c.both-shown.ensures, c.either-normal.ensures, c.duration_choices.ensures))
     (c.read_bits_if-timecode.ensures ∙ rw (c.both-2.ensures, c.both-timed.ensures, c.both-shown.ensures, c.either-normal.ensures))

@@ -5,14 +5,14 @@ use lib.Seq.{length-take-le}
 use Rattle.header.proofs.Entering.{given_kept, given_read}
 use Rattle.header.proofs.entry.give_channels.Goals as goal
 
-pub slice_bounds-fill_u32-end : goal.slice_bounds-fill_u32-end
-slice_bounds-fill_u32-end c = sym (length-take-le _ c.args.ups.now (omega (arith, c.requires.room.0, c.if-f-le8.true)))
+pub slice_bounds-fill-end : goal.slice_bounds-fill-end
+slice_bounds-fill-end c = sym (length-take-le _ c.args.ups.now (omega (arith, c.requires.room.0, c.if-f-le8.true)))
 
-pub slice_bounds-fill_u32-end-then-f-le8 : goal.slice_bounds-fill_u32-end-then-f-le8
-slice_bounds-fill_u32-end-then-f-le8 c = sym (length-take-le _ c.args.channels.now (omega (arith, c.requires.room.1, c.if-f-le8.true)))
+pub slice_bounds-fill-end-then-f-le8 : goal.slice_bounds-fill-end-then-f-le8
+slice_bounds-fill-end-then-f-le8 c = sym (length-take-le _ c.args.channels.now (omega (arith, c.requires.room.1, c.if-f-le8.true)))
 
 pub returns-then-f-le8 : goal.returns-then-f-le8
-returns-then-f-le8 c = given_kept c.args.f c.args.s.now c.args.a c.args.b c.args.upsampling.now _ c.args.blending.now _ c.args.ups.now c.args.channels.now c.requires c.if-f-le8.true c.fill_u32.ensures c.fill_u32-then-f-le8.ensures
+returns-then-f-le8 c = given_kept c.args.f c.args.s.now c.args.a c.args.b c.args.upsampling.now _ c.args.blending.now _ c.args.ups.now c.args.channels.now c.requires c.if-f-le8.true c.fill.ensures c.fill-then-f-le8.ensures
 
 pub returns : goal.returns
 returns c =

@@ -5,7 +5,6 @@ use Rattle.header.proofs.opening.read_opening.Goals as goal
 
 pub returns : goal.returns
 returns c =
-    
     (opening_law c.args.s.now c.args.c c.args.f _ _ _ _ _ _ _ _ _
     c.read_bool_if-all.ensures
     c.read_bits_if-kind.ensures

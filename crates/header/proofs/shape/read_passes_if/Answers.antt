@@ -5,7 +5,6 @@ use Rattle.header.proofs.shape.read_passes_if.Goals as goal
 
 pub returns : goal.returns
 returns c =
-    
     (passes_law c.args.s.now c.args.c c.args.on _ _ _ _ _ _ _ _ _ _ _ _
     (c.read_u32_if-n.ensures ∙ rw c.pass_choices.ensures)
     (c.read_u32_if-ds.ensures ∙ rw c.ds_choices.ensures)

@@ -9,7 +9,6 @@ overflow_add-level c = omega (arith, bits_below c.args.s.now _ 2 _ _ c.read_bits
 
 pub returns : goal.returns
 returns c =
-    
     (placement_law c.args.s.now c.args.c c.args.f c.args.o _ _ _ _ _ _ _
     c.read_bits_if-level.ensures
     c.either_number-lf_level.ensures

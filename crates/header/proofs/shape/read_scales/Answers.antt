@@ -5,7 +5,6 @@ use Rattle.header.proofs.shape.read_scales.Goals as goal
 
 pub returns : goal.returns
 returns c =
-    
     (scales_law c.args.s.now c.args.c c.args.f c.args.o _ _ _ _ _
     c.both-xyb.ensures
     c.either_number.ensures

@@ -8,4 +8,4 @@ pub returns-then-not-shown : goal.returns-then-not-shown
 returns-then-not-shown c = column_dash c.args.shown c.args.n (not-true _ (not_from_false _ c.if-not-shown.true)) c.put_bytes.ensures
 
 pub returns : goal.returns
-returns c = column_number _ c.args.shown c.args.n (not-false _ (not_from_true _ c.if-not-shown.false)) c.put_u8.ensures c.put_number.ensures
+returns c = column_number _ c.args.shown c.args.n (not-false _ (not_from_true _ c.if-not-shown.false)) c.put.ensures c.put_number.ensures

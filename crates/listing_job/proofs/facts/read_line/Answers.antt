@@ -9,7 +9,7 @@ pub loop-i-preserved : goal.loop-i-preserved
 loop-i-preserved c =
     let a = c.args in
     reads_more a.s.now a.limits.now a.values.now c.loop-i.good c.loop-i.at c.loop-i.values c.loop-i.i c.loop-i.invariant
-    c.loop-i-test.true _ c.stop_of.ensures _ c.number_at-n.ensures _ _ c.both-good.ensures c.put_u64.ensures
+    c.loop-i-test.true _ c.stop_of.ensures _ c.number_at-n.ensures _ _ c.both-good.ensures c.put.ensures
 
 pub shape_of-values : goal.shape_of-values
 shape_of-values c = c.loop-i.invariant.filling.size

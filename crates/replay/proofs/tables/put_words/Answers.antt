@@ -8,7 +8,7 @@ pub loop-i-init : goal.loop-i-init
 loop-i-init c = placing_none (λ j. word_at c.args.s.now (c.args.at + 4 * j)) c.args.n
 
 pub loop-i-preserved : goal.loop-i-preserved
-loop-i-preserved c = placing_more _ _ c.loop-i.invariant c.loop-i-test.true _ c.number.ensures _ c.put_u32.ensures
+loop-i-preserved c = placing_more _ _ c.loop-i.invariant c.loop-i-test.true _ c.number.ensures _ c.put.ensures
 
 pub returns : goal.returns
 returns c = placing_all _ _ c.loop-i.invariant c.loop-i-test.false

@@ -7,7 +7,7 @@ pub loop-i-init : goal.loop-i-init
 loop-i-init c = placing_none (λ j. c.args.n - 1 - j) c.args.n
 
 pub loop-i-preserved : goal.loop-i-preserved
-loop-i-preserved c = placing_more _ _ c.loop-i.invariant c.loop-i-test.true _ refl _ c.put_u32.ensures
+loop-i-preserved c = placing_more _ _ c.loop-i.invariant c.loop-i-test.true _ refl _ c.put.ensures
 
 pub returns : goal.returns
 returns c = placing_all _ _ c.loop-i.invariant c.loop-i-test.false

@@ -16,7 +16,7 @@ pub loop-j-preserved : goal.loop-j-preserved
 loop-j-preserved c =
     placing_more _ c.args.order.now _ _ _ _
     c.loop-j.invariant _ c.loop-j-test.true
-    c.if-order-i.false c.put_u32.ensures
+    c.if-order-i.false c.put.ensures
 
 pub returns : goal.returns
 returns c = placing_all _ c.args.order.now c.args.count _ _ _ c.loop-j.invariant (omega arith)

@@ -40,8 +40,8 @@ pub loop-k-preserved-then-p : goal.loop-k-preserved-then-p
 loop-k-preserved-then-p c = (
   omega (arith, leb-true 2 (c.args.count - c.loop-k.k) (c.read_pair-p.ensures c.if-p.true).wanted),
   pair_more c.args.s.now _ _ _ _ _ c.loop-k.invariant.1 _ c.read_pair-p.result (c.read_pair-p.ensures c.if-p.true) _ c.begin-at.ensures,
-  turn_two (offset_at c.args.s.now c.args.begin c.args.start) c.args.inverse.now c.args.count c.loop-k.k _ _ c.loop-k.invariant.2 (omega (arith, leb-true 2 (c.args.count - c.loop-k.k) (c.read_pair-p.ensures c.if-p.true).wanted)) (omega (arith, leb-true 2 (c.args.count - c.loop-k.k) (c.read_pair-p.ensures c.if-p.true).wanted, c.requires.1)) _ _ _ _ c.put_u64.ensures c.put_u64-then-p.ensures c.loop-k.invariant.1.total (pair_between c.args.s.now _ _ _ _ _ c.loop-k.invariant.1 _ c.read_pair-p.result (c.read_pair-p.ensures c.if-p.true)).total,
-  turn_two (size_at c.args.s.now c.args.begin) c.args.inverse.now c.args.count c.loop-k.k _ _ c.loop-k.invariant.3 (omega (arith, leb-true 2 (c.args.count - c.loop-k.k) (c.read_pair-p.ensures c.if-p.true).wanted)) (omega (arith, leb-true 2 (c.args.count - c.loop-k.k) (c.read_pair-p.ensures c.if-p.true).wanted, c.requires.1)) _ _ _ _ c.put_u32.ensures c.put_u32-then-p.ensures (pair_first c.args.s.now _ _ _ _ _ c.loop-k.invariant.1 _ c.read_pair-p.result (c.read_pair-p.ensures c.if-p.true)) (pair_second c.args.s.now _ _ _ _ _ c.loop-k.invariant.1 _ c.read_pair-p.result (c.read_pair-p.ensures c.if-p.true)),
+  turn_two (offset_at c.args.s.now c.args.begin c.args.start) c.args.inverse.now c.args.count c.loop-k.k _ _ c.loop-k.invariant.2 (omega (arith, leb-true 2 (c.args.count - c.loop-k.k) (c.read_pair-p.ensures c.if-p.true).wanted)) (omega (arith, leb-true 2 (c.args.count - c.loop-k.k) (c.read_pair-p.ensures c.if-p.true).wanted, c.requires.1)) _ _ _ _ c.put.ensures c.put-then-p.ensures c.loop-k.invariant.1.total (pair_between c.args.s.now _ _ _ _ _ c.loop-k.invariant.1 _ c.read_pair-p.result (c.read_pair-p.ensures c.if-p.true)).total,
+  turn_two (size_at c.args.s.now c.args.begin) c.args.inverse.now c.args.count c.loop-k.k _ _ c.loop-k.invariant.3 (omega (arith, leb-true 2 (c.args.count - c.loop-k.k) (c.read_pair-p.ensures c.if-p.true).wanted)) (omega (arith, leb-true 2 (c.args.count - c.loop-k.k) (c.read_pair-p.ensures c.if-p.true).wanted, c.requires.1)) _ _ _ _ c.put.ensures c.put-then-p.ensures (pair_first c.args.s.now _ _ _ _ _ c.loop-k.invariant.1 _ c.read_pair-p.result (c.read_pair-p.ensures c.if-p.true)) (pair_second c.args.s.now _ _ _ _ _ c.loop-k.invariant.1 _ c.read_pair-p.result (c.read_pair-p.ensures c.if-p.true)),
 )
 
 pub overflow_add-offset-else-p : goal.overflow_add-offset-else-p
@@ -54,8 +54,8 @@ pub loop-k-preserved : goal.loop-k-preserved
 loop-k-preserved c = (
   omega arith,
   walking_more c.args.s.now _ _ _ _ _ c.loop-k.invariant.1 _ c.read_size-x.ensures,
-  turn_more (offset_at c.args.s.now c.args.begin c.args.start) c.args.inverse.now c.args.count c.loop-k.k _ _ c.loop-k.invariant.2 c.loop-k-test.true (omega arith) _ _ c.put_u64-else-p.ensures c.loop-k.invariant.1.total,
-  turn_more (size_at c.args.s.now c.args.begin) c.args.inverse.now c.args.count c.loop-k.k _ _ c.loop-k.invariant.3 c.loop-k-test.true (omega arith) _ _ c.put_u32-else-p.ensures (walking_size c.args.s.now _ _ _ _ _ c.loop-k.invariant.1 _ c.read_size-x.ensures),
+  turn_more (offset_at c.args.s.now c.args.begin c.args.start) c.args.inverse.now c.args.count c.loop-k.k _ _ c.loop-k.invariant.2 c.loop-k-test.true (omega arith) _ _ c.put-else-p.ensures c.loop-k.invariant.1.total,
+  turn_more (size_at c.args.s.now c.args.begin) c.args.inverse.now c.args.count c.loop-k.k _ _ c.loop-k.invariant.3 c.loop-k-test.true (omega arith) _ _ c.put-else-p.ensures (walking_size c.args.s.now _ _ _ _ _ c.loop-k.invariant.1 _ c.read_size-x.ensures),
 )
 
 pub returns : goal.returns
