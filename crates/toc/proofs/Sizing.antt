@@ -73,17 +73,11 @@ module _ (w : View) (r : Seen) (e : r ≡ seen_size w) where
 
 -- two sizes out of one look ahead
 module _ (s : List ℕ) (c : Cursor) (on i : Bool) (ei : i ≡ not (on && clear c)) (go : i ≡ false) (a : Ahead) (ea : a ≡ ahead s c.at) (x y : Seen)
-    (ex : x ≡ seen_size (record { bits = a.bits; at = c.at })) (ey : y ≡ seen_size x.rest) (both : ℕ) (eb : (both + c.at) % 2 ^ 64 ≡ y.rest.at) (held : Bool)
-    (eh : held ≡ (a.whole && leb both 56)) (is : not held ≡ false)
+    (ex : x ≡ seen_size (record { bits = a.bits; at = c.at })) (ey : y ≡ seen_size x.rest) (both : ℕ) (eb : (both + c.at) % 2 ^ 64 ≡ y.rest.at)
+    (whole : a.whole ≡ true) (near : both ≤ 56)
   where
     abbrev first : View
     first = record { bits = a.bits; at = c.at }
-
-    inside : (a.whole && leb both 56) ≡ true
-    inside = sym eh ∙ not-false held is
-
-    whole : a.whole ≡ true
-    whole = and_left a.whole (leb both 56) inside
 
     room : c.at + 56 ≤ bit_count s
     room = whole_reaches s c.at 56 a.whole (ap (λ (z : Ahead). z.whole) ea) whole (omega arith)
@@ -99,11 +93,10 @@ module _ (s : List ℕ) (c : Cursor) (on i : Bool) (ei : i ≡ not (on && clear 
 
     fits : width first + width x.rest ≤ 56
     fits =
-        let low : both ≤ 56 = leb-true both 56 (and_right a.whole (leb both 56) inside) in
-        let exact : (both + c.at) % 2 ^ 64 ≡ both + c.at = mod-eq_of_lt (omega (arith, room, low)) in
-        omega (arith, low, sym exact ∙ eb, behind)
+        let exact : (both + c.at) % 2 ^ 64 ≡ both + c.at = mod-eq_of_lt (omega (arith, room, near)) in
+        omega (arith, near, sym exact ∙ eb, behind)
 
-    pub pair_two : (p : Pair) → p ≡ record { there = true; first = x.value; second = y.value; at = y.rest.at } → Two s c on p
+    pub pair_two : (p : Pair) → p ≡ record { first = x.value; second = y.value; at = y.rest.at } → Two s c on p
     pair_two p ep =
         let asked : on ≡ true = and_left on (clear c) (not-false (on && clear c) (sym ei ∙ go)) in
         let one = size_seen first x ex s 56 (omega (arith, fits)) (held_ahead s c.at 56 a ea whole (omega arith)) in

@@ -17,7 +17,6 @@ use Rattle.order.specs.Sums.{sum_to}
 use Rattle.order.proofs.Tables.{tabulate_ext}
 use Rattle.order.proofs.Placed.{Placing, placing_more}
 use Rattle.toc.specs.declared.reading.Pair.{Pair}
-use Rattle.toc.specs.declared.reading.Summed.{Summed}
 use Rattle.toc.specs.declared.reading.Walk.{Walk}
 use Rattle.toc.specs.Sizes.{size_choices, size_row, size_rows}
 use Rattle.toc.specs.Private.{cursor_at, size_at, offset_at, Two, padded, summed, walked}
@@ -119,15 +118,15 @@ turn_two g l count k before table p low there t1 t2 v1 v2 e1 e2 a b =
 
 -- what the walk over the sizes comes to, and the walk between its paddings
 pub sum_done : (s : List ℕ) (first : Cursor) (count : ℕ) (at : Cursor) (k total : ℕ) → k ≤ count → count ≤ k → Walking s first 0 at k total
-    → ◌≡◌ {A = Summed} (record { at = at; total = total }) (summed s first count)
+    → ◌≡◌ {A = Read ℕ} (record { value = total; next = at }) (summed s first count)
 unfolding summed offset_at
 sum_done s first count at k total low high w =
     let same : k ≡ count = omega arith in
     let sum : total ≡ sum_to k (size_at s first) = omega (arith, w.total) in
     rw (← same, ← sum, ← w.place)
 
-pub walk_done : (s : List ℕ) (c : Cursor) (count : ℕ) (first : Cursor) (x : Summed) (last : Cursor) → first ≡ padded s c → x ≡ summed s first count → last ≡ padded s x.at
-    → ◌≡◌ {A = Walk} (record { first = first; last = last; total = x.total }) (walked s c count)
+pub walk_done : (s : List ℕ) (c : Cursor) (count : ℕ) (first : Cursor) (x : Read ℕ) (last : Cursor) → first ≡ padded s c → x ≡ summed s first count → last ≡ padded s x.next
+    → ◌≡◌ {A = Walk} (record { first = first; last = last; total = x.value }) (walked s c count)
 unfolding walked summed
 walk_done s c count first x last ef ex el = rw (el, ex, ef)
 

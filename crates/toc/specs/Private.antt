@@ -10,7 +10,6 @@ use Rattle.bits.specs.View.{seen, seen_choice}
 use Rattle.bits.specs.Codec.{u32, padding, chosen, field}
 use Rattle.order.specs.Tables.{identity}
 use Rattle.order.specs.Sums.{sum_to}
-use Rattle.toc.specs.declared.reading.Summed.{Summed}
 use Rattle.toc.specs.declared.reading.Pair.{Pair}
 use Rattle.toc.specs.declared.reading.Walk.{Walk}
 use Rattle.toc.specs.Sizes.{size_choices, size_rows}
@@ -45,8 +44,8 @@ abbrev pub padded : List ℕ → Cursor → Cursor
 padded s c = (field s true padding 0 c).next
 
 -- the walk over the sizes alone: where it ends, and their sum
-unfoldable pub summed : List ℕ → Cursor → ℕ → Summed
-summed s c count = record { at = cursor_at s c count; total = sum_to count (size_at s c) }
+unfoldable pub summed : List ℕ → Cursor → ℕ → Read ℕ
+summed s c count = record { value = sum_to count (size_at s c); next = cursor_at s c count }
 
 -- between its two paddings
 unfoldable pub walked : List ℕ → Cursor → ℕ → Walk

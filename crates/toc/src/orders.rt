@@ -10,10 +10,8 @@ fn identity_into(table: &mut [u32], count: u32)
     ensures { table.new ≡ filled (identity count) table.old }
 {
     let end = (count as usize).min(table.len());
-    let mut i: usize = 0;
-    while i < end {
+    for i in 0..end {
         table[i] = i as u32;
-        i += 1;
     }
 }
 
@@ -29,14 +27,12 @@ fn order_into(order: &[u32], count: u32, table: &mut [u32])
 fn inverse_into(order: &[u32], count: u32, inverse: &mut [u32])
     ensures { inverse.new ≡ placed (take count order.now) inverse.old }
 {
-    let mut j: u32 = 0;
-    while j < count {
+    for j in 0..count {
         let i = j as usize;
         if order.len() <= i {
             return;
         }
         fill::put(inverse, order[i] as usize, j);
-        j += 1;
     }
 }
 

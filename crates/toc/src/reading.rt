@@ -1,6 +1,6 @@
 // The two entries that read a table of contents, as `parse` of the Rust's `Toc`. The first reads the permuted flag; the second is lent
 // the order that a flag of 1 asks for, and goes on at the padding. Nothing is written before the whole table is known to be good.
-ghost use Rattle.std.specs.Prelude.{◌≡◌, ◌+◌, ◌<◌, ◌≤◌, true, false, length, take};
+ghost use Rattle.std.specs.Prelude.{IfSome, ◌≡◌, ◌+◌, ◌<◌, ◌≤◌, true, false, length, take};
 ghost use Rattle.toc.specs.Reading.{Done, tables, room_for, judged_by, first_reading, second_reading};
 ghost use Rattle.toc.specs.Private.{sized_reading, summed, walked, size_at, offset_at, seen_size, Two, Room, order_by};
 ghost use Rattle.bits.specs.Codec.{u32, chosen, field};
@@ -10,7 +10,7 @@ ghost use Rattle.toc.specs.Sizes.{size_choices};
 
 use crate::orders::put_orders;
 use crate::{Toc, TocRead};
-use bits::{Read, Choice, Cursor, Refusal, Seen, View};
+use bits::{Choice, Cursor, Read, Refusal, Seen, View};
 use grid::{Frame, Grid};
 
 // Whether each of four tables has a word for each section.
@@ -91,67 +91,47 @@ fn see_size(w: View) -> Seen
     bits::see_choice(k, Choice { base, bits: width })
 }
 
-// Two sizes that follow each other, if they could be read at once, and the place behind them.
+// Two sizes that follow each other, and the place behind them.
 #[derive(Clone, Copy)]
 struct Pair {
-    there: bool,
     first: u32,
     second: u32,
     at: u64,
 }
 
-fn no_pair(at: u64) -> Pair
-    ensures { result.there ≡ false }
-{
-    Pair {
-        there: false,
-        first: 0,
-        second: 0,
-        at,
-    }
-}
-
 // Two sizes out of one look ahead, where two are left to read and it holds both. The second doesn't wait for a load of its own.
-fn read_pair(s: &[u8], c: Cursor, on: bool) -> Pair
-    ensures { result.there ≡ true → Two s.now c on result }
+fn read_pair(s: &[u8], c: Cursor, on: bool) -> Option<Pair>
+    ensures { IfSome result (λ p. Two s.now c on p) }
 {
     let at = c.at;
     if bits::idle(c, on) {
-        return no_pair(at);
+        return None;
     }
     let a = bits::look_ahead(s, at);
     let x = see_size(View { bits: a.bits, at });
     let y = see_size(x.rest);
     let rest = y.rest;
     let end = rest.at;
-    if !bits::both(a.whole, std::num::wrapping_sub_u64(end, at) <= 56) {
-        return no_pair(at);
+    if !a.whole || 56 < end.wrapping_sub(at) {
+        return None;
     }
-    Pair {
-        there: true,
+    Some(Pair {
         first: x.value,
         second: y.value,
         at: end,
-    }
+    })
 }
 
-// What a walk over sizes comes to: the cursor behind them, and their sum.
-#[derive(Clone, Copy)]
-struct Summed {
-    at: Cursor,
-    total: u64,
-}
-
-// count sizes: read and summed, nothing kept.
-fn sum_sizes(s: &[u8], c: Cursor, count: u32) -> Summed
+// A turn reads two sizes or one, so the walks below count by hand.
+// count sizes: their sum is what is read of them.
+fn sum_sizes(s: &[u8], c: Cursor, count: u32) -> Read<u64>
     ensures { result ≡ summed s.now c count }
 {
     let mut at = c;
     let mut total: u64 = 0;
     let mut k: u32 = 0;
     while k < count {
-        let p = read_pair(s, at, 2 <= count - k);
-        if p.there {
+        if let Some(p) = read_pair(s, at, 2 <= count - k) {
             total += p.first as u64;
             total += p.second as u64;
             at = bits::begin(p.at);
@@ -163,7 +143,10 @@ fn sum_sizes(s: &[u8], c: Cursor, count: u32) -> Summed
             k += 1;
         }
     }
-    Summed { at, total }
+    Read {
+        value: total,
+        next: at,
+    }
 }
 
 // Padding, count sizes, padding.
@@ -172,11 +155,11 @@ fn walk_sizes(s: &[u8], c: Cursor, count: u32) -> Walk
 {
     let first = bits::zero_pad_to_byte(s, c);
     let x = sum_sizes(s, first, count);
-    let last = bits::zero_pad_to_byte(s, x.at);
+    let last = bits::zero_pad_to_byte(s, x.next);
     Walk {
         first,
         last,
-        total: x.total,
+        total: x.value,
     }
 }
 
@@ -198,10 +181,9 @@ fn fill_sizes(
     let mut offset = start;
     let mut k: u32 = 0;
     while k < count {
-        let p = read_pair(s, at, 2 <= count - k);
         let i = k as usize;
         let section = inverse[i] as usize;
-        if p.there {
+        if let Some(p) = read_pair(s, at, 2 <= count - k) {
             let other = inverse[i + 1] as usize;
             fill::put(offsets, section, offset);
             fill::put(sizes, section, p.first);

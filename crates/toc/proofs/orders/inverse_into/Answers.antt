@@ -10,7 +10,7 @@ pub returns-then-order-i : goal.returns-then-order-i
 returns-then-order-i c = placing_all _ c.args.order.now c.args.count _ _ _ c.loop-j.invariant (omega arith)
 
 pub overflow_cast-order : goal.overflow_cast-order
-overflow_cast-order c = omega (arith, c.shared_slice_known-in-loop-j-1.given c.loop-j.j)
+overflow_cast-order c = omega (arith, c.type_inv.order c.loop-j.j)
 
 pub loop-j-preserved : goal.loop-j-preserved
 loop-j-preserved c =

@@ -10,52 +10,52 @@ pub loop-k-init : goal.loop-k-init
 loop-k-init c = (omega arith, walking_none c.args.s.now _ _, placing_none _ (take c.args.count c.args.inverse.now) _, placing_none _ (take c.args.count c.args.inverse.now) _)
 
 pub overflow_cast-section : goal.overflow_cast-section
-overflow_cast-section c = omega (arith, c.shared_slice_known-in-loop-k-1.given c.loop-k.k)
+overflow_cast-section c = omega (arith, c.type_inv.inverse c.loop-k.k)
 
 pub overflow_add-other : goal.overflow_add-other
-overflow_add-other c = omega (arith, leb-true 2 (c.args.count - c.loop-k.k) (c.read_pair-p.ensures c.if-p.true).wanted, c.ranges)
+overflow_add-other c = omega (arith, leb-true 2 (c.args.count - c.loop-k.k) c.in-Some.ensures.wanted, c.ranges)
 
-pub offset_bounds-inverse-i-then-p : goal.offset_bounds-inverse-i-then-p
-offset_bounds-inverse-i-then-p c = omega (arith, leb-true 2 (c.args.count - c.loop-k.k) (c.read_pair-p.ensures c.if-p.true).wanted, c.ranges)
+pub offset_bounds-inverse-i-in-Some : goal.offset_bounds-inverse-i-in-Some
+offset_bounds-inverse-i-in-Some c = omega (arith, leb-true 2 (c.args.count - c.loop-k.k) c.in-Some.ensures.wanted, c.ranges)
 
-pub bounds-inverse-i-then-p : goal.bounds-inverse-i-then-p
-bounds-inverse-i-then-p c = omega (arith, leb-true 2 (c.args.count - c.loop-k.k) (c.read_pair-p.ensures c.if-p.true).wanted, c.requires.1)
+pub bounds-inverse-i-in-Some : goal.bounds-inverse-i-in-Some
+bounds-inverse-i-in-Some c = omega (arith, leb-true 2 (c.args.count - c.loop-k.k) c.in-Some.ensures.wanted, c.requires.1)
 
 pub overflow_cast-other : goal.overflow_cast-other
-overflow_cast-other c = omega (arith, c.shared_slice_known-then-p-1.given (c.loop-k.k + 1))
+overflow_cast-other c = omega (arith, c.type_inv.inverse (c.loop-k.k + 1))
 
 pub overflow_add-offset : goal.overflow_add-offset
-overflow_add-offset c = record { fits = pair_first_fits c.args.s.now _ _ _ _ _ c.loop-k.invariant.1 _ c.read_pair-p.result (c.read_pair-p.ensures c.if-p.true) c.requires.0 (omega (arith, leb-true 2 (c.args.count - c.loop-k.k) (c.read_pair-p.ensures c.if-p.true).wanted, c.ranges)) }
+overflow_add-offset c = record { fits = pair_first_fits c.args.s.now _ _ _ _ _ c.loop-k.invariant.1 _ c.in-Some.p c.in-Some.ensures c.requires.0 (omega (arith, leb-true 2 (c.args.count - c.loop-k.k) c.in-Some.ensures.wanted, c.ranges)) }
 
-pub overflow_add-offset-then-p : goal.overflow_add-offset-then-p
-overflow_add-offset-then-p c = record { fits = pair_second_fits c.args.s.now _ _ _ _ _ c.loop-k.invariant.1 _ c.read_pair-p.result (c.read_pair-p.ensures c.if-p.true) c.requires.0 (omega (arith, leb-true 2 (c.args.count - c.loop-k.k) (c.read_pair-p.ensures c.if-p.true).wanted, c.ranges)) }
+pub overflow_add-offset-in-Some : goal.overflow_add-offset-in-Some
+overflow_add-offset-in-Some c = record { fits = pair_second_fits c.args.s.now _ _ _ _ _ c.loop-k.invariant.1 _ c.in-Some.p c.in-Some.ensures c.requires.0 (omega (arith, leb-true 2 (c.args.count - c.loop-k.k) c.in-Some.ensures.wanted, c.ranges)) }
 
 pub overflow_add-k : goal.overflow_add-k
-overflow_add-k c = omega (arith, leb-true 2 (c.args.count - c.loop-k.k) (c.read_pair-p.ensures c.if-p.true).wanted, c.ranges)
+overflow_add-k c = omega (arith, leb-true 2 (c.args.count - c.loop-k.k) c.in-Some.ensures.wanted, c.ranges)
 
-pub loop-k-smaller-then-p : goal.loop-k-smaller-then-p
-loop-k-smaller-then-p c = omega (arith, leb-true 2 (c.args.count - c.loop-k.k) (c.read_pair-p.ensures c.if-p.true).wanted)
+pub loop-k-smaller-in-Some : goal.loop-k-smaller-in-Some
+loop-k-smaller-in-Some c = omega (arith, leb-true 2 (c.args.count - c.loop-k.k) c.in-Some.ensures.wanted)
 
-pub loop-k-preserved-then-p : goal.loop-k-preserved-then-p
-loop-k-preserved-then-p c = (
-  omega (arith, leb-true 2 (c.args.count - c.loop-k.k) (c.read_pair-p.ensures c.if-p.true).wanted),
-  pair_more c.args.s.now _ _ _ _ _ c.loop-k.invariant.1 _ c.read_pair-p.result (c.read_pair-p.ensures c.if-p.true) _ c.begin-at.ensures,
-  turn_two (offset_at c.args.s.now c.args.begin c.args.start) c.args.inverse.now c.args.count c.loop-k.k _ _ c.loop-k.invariant.2 (omega (arith, leb-true 2 (c.args.count - c.loop-k.k) (c.read_pair-p.ensures c.if-p.true).wanted)) (omega (arith, leb-true 2 (c.args.count - c.loop-k.k) (c.read_pair-p.ensures c.if-p.true).wanted, c.requires.1)) _ _ _ _ c.put.ensures c.put-then-p.ensures c.loop-k.invariant.1.total (pair_between c.args.s.now _ _ _ _ _ c.loop-k.invariant.1 _ c.read_pair-p.result (c.read_pair-p.ensures c.if-p.true)).total,
-  turn_two (size_at c.args.s.now c.args.begin) c.args.inverse.now c.args.count c.loop-k.k _ _ c.loop-k.invariant.3 (omega (arith, leb-true 2 (c.args.count - c.loop-k.k) (c.read_pair-p.ensures c.if-p.true).wanted)) (omega (arith, leb-true 2 (c.args.count - c.loop-k.k) (c.read_pair-p.ensures c.if-p.true).wanted, c.requires.1)) _ _ _ _ c.put.ensures c.put-then-p.ensures (pair_first c.args.s.now _ _ _ _ _ c.loop-k.invariant.1 _ c.read_pair-p.result (c.read_pair-p.ensures c.if-p.true)) (pair_second c.args.s.now _ _ _ _ _ c.loop-k.invariant.1 _ c.read_pair-p.result (c.read_pair-p.ensures c.if-p.true)),
+pub loop-k-preserved-in-Some : goal.loop-k-preserved-in-Some
+loop-k-preserved-in-Some c = (
+  omega (arith, leb-true 2 (c.args.count - c.loop-k.k) c.in-Some.ensures.wanted),
+  pair_more c.args.s.now _ _ _ _ _ c.loop-k.invariant.1 _ c.in-Some.p c.in-Some.ensures _ c.begin-at.ensures,
+  turn_two (offset_at c.args.s.now c.args.begin c.args.start) c.args.inverse.now c.args.count c.loop-k.k _ _ c.loop-k.invariant.2 (omega (arith, leb-true 2 (c.args.count - c.loop-k.k) c.in-Some.ensures.wanted)) (omega (arith, leb-true 2 (c.args.count - c.loop-k.k) c.in-Some.ensures.wanted, c.requires.1)) _ _ _ _ c.put.ensures c.put-in-Some-2.ensures c.loop-k.invariant.1.total (pair_between c.args.s.now _ _ _ _ _ c.loop-k.invariant.1 _ c.in-Some.p c.in-Some.ensures).total,
+  turn_two (size_at c.args.s.now c.args.begin) c.args.inverse.now c.args.count c.loop-k.k _ _ c.loop-k.invariant.3 (omega (arith, leb-true 2 (c.args.count - c.loop-k.k) c.in-Some.ensures.wanted)) (omega (arith, leb-true 2 (c.args.count - c.loop-k.k) c.in-Some.ensures.wanted, c.requires.1)) _ _ _ _ c.put-in-Some.ensures c.put-in-Some-3.ensures (pair_first c.args.s.now _ _ _ _ _ c.loop-k.invariant.1 _ c.in-Some.p c.in-Some.ensures) (pair_second c.args.s.now _ _ _ _ _ c.loop-k.invariant.1 _ c.in-Some.p c.in-Some.ensures),
 )
 
-pub overflow_add-offset-else-p : goal.overflow_add-offset-else-p
-overflow_add-offset-else-p c = record { fits = walking_fits c.args.s.now _ _ _ _ _ c.loop-k.invariant.1 _ c.read_size-x.ensures c.requires.0 (omega (arith, c.loop-k-test.true, c.ranges)) }
+pub overflow_add-offset-in_default : goal.overflow_add-offset-in_default
+overflow_add-offset-in_default c = record { fits = walking_fits c.args.s.now _ _ _ _ _ c.loop-k.invariant.1 _ c.read_size-x.ensures c.requires.0 (omega (arith, c.loop-k-test.true, c.ranges)) }
 
-pub overflow_add-k-else-p : goal.overflow_add-k-else-p
-overflow_add-k-else-p c = omega (arith, c.loop-k-test.true, c.ranges)
+pub overflow_add-k-in_default : goal.overflow_add-k-in_default
+overflow_add-k-in_default c = omega (arith, c.loop-k-test.true, c.ranges)
 
 pub loop-k-preserved : goal.loop-k-preserved
 loop-k-preserved c = (
   omega arith,
   walking_more c.args.s.now _ _ _ _ _ c.loop-k.invariant.1 _ c.read_size-x.ensures,
-  turn_more (offset_at c.args.s.now c.args.begin c.args.start) c.args.inverse.now c.args.count c.loop-k.k _ _ c.loop-k.invariant.2 c.loop-k-test.true (omega arith) _ _ c.put-else-p.ensures c.loop-k.invariant.1.total,
-  turn_more (size_at c.args.s.now c.args.begin) c.args.inverse.now c.args.count c.loop-k.k _ _ c.loop-k.invariant.3 c.loop-k-test.true (omega arith) _ _ c.put-else-p.ensures (walking_size c.args.s.now _ _ _ _ _ c.loop-k.invariant.1 _ c.read_size-x.ensures),
+  turn_more (offset_at c.args.s.now c.args.begin c.args.start) c.args.inverse.now c.args.count c.loop-k.k _ _ c.loop-k.invariant.2 c.loop-k-test.true (omega arith) _ _ c.put-in_default.ensures c.loop-k.invariant.1.total,
+  turn_more (size_at c.args.s.now c.args.begin) c.args.inverse.now c.args.count c.loop-k.k _ _ c.loop-k.invariant.3 c.loop-k-test.true (omega arith) _ _ c.put-in_default-2.ensures (walking_size c.args.s.now _ _ _ _ _ c.loop-k.invariant.1 _ c.read_size-x.ensures),
 )
 
 pub returns : goal.returns
