@@ -12,7 +12,7 @@ use lib.Dec.{eqb, leb}
 use lib.ListN.{length, get_or, take, drop, length-drop, drop_of_length-le}
 use lib.Seq.{drop-cons, drop-drop}
 use borrow.Author.Tests.{eq-eqb, ne_eqb, lt-ltb, le-ltb, leb-true}
-use Rattle.std.specs.Prelude.{Option, None}
+use Rattle.std.specs.Prelude.{Option, Some, None}
 use Rattle.bits.specs.Refusals.{pick}
 use Rattle.decimal.specs.declared.Step.{Step}
 use Rattle.decimal.specs.Decimal.{Parsed, told, parsed, judged, good, bad, leads, digits_alone, value_from}
@@ -105,6 +105,22 @@ module _ (s : List ℕ) (at stop limit : ℕ) where
       by_cases (dec_le (suc (length front)) (length text))
       (λ y. rw (there y) (omega (arith, y, length-drop at s)))
       (λ y. rw (missing (omega (arith, y))) (omega (arith, length-drop at s, (parted stop text).low)))
+
+-- ---- what is told of a number
+
+told_by : (b : Bool) (v w : ℕ) → pick b (Some v) None ≡ Some w → (b ≡ true) × (v ≡ w)
+told_by true v w e = (refl, cc)
+told_by false v w e = absurd (cc)
+
+told_not : (b : Bool) (v : ℕ) → pick b (Some v) None ≡ None → b ≡ false
+told_not true v e = absurd (cc)
+told_not false v e = refl
+
+pub told_some : (p : Parsed) (v : ℕ) → told p ≡ Some v → (p.good ≡ true) × (p.value ≡ v)
+told_some p v e = told_by p.good p.value v e
+
+pub told_none : (p : Parsed) → told p ≡ None → p.good ≡ false
+told_none p e = told_not p.good p.value e
 
 -- ---- a number is within its limit
 
