@@ -1,5 +1,5 @@
 -- Laws of a number within a text: the byte that ends it, what stands before that and what stands behind.
-use Prim.Native.Nat.{ℕ, suc, ◌+◌, ◌-◌, ◌≤◌, ◌<◌}
+use Prim.Native.Nat.{ℕ, suc, ◌+◌, ◌-◌, ◌≤◌, ◌<◌, max}
 use native.Mathlib.Omega.{arith}
 use native.Mathlib.Decide.{dec_le}
 use native.Mathlib.Nat.{add-zero}
@@ -12,10 +12,10 @@ use lib.Dec.{eqb, leb}
 use lib.ListN.{length, get_or, take, drop, length-drop, drop_of_length-le}
 use lib.Seq.{drop-cons, drop-drop}
 use borrow.Author.Tests.{eq-eqb, ne_eqb, lt-ltb, le-ltb, leb-true}
+use Rattle.std.specs.Prelude.{Option, Some, None}
 use Rattle.bits.specs.Refusals.{pick}
-use Rattle.decimal.specs.declared.Parsed.{Parsed}
 use Rattle.decimal.specs.declared.Step.{Step}
-use Rattle.decimal.specs.Decimal.{parsed, judged, good, bad, leads, digits_alone, value_from}
+use Rattle.decimal.specs.Decimal.{Parsed, told, parsed, judged, good, bad, leads, digits_alone, value_from}
 use Rattle.decimal.specs.UpTo.{up_to, behind, ended, numbered, find_at, number_at}
 
 -- a text in two parts: what stands before the first stop, and what stands behind it
@@ -38,6 +38,10 @@ parted stop (b ∷ text) = parted_by (eqb b stop) b text (up_to stop text) (behi
 -- ---- the walk: up to index i no byte was it
 
 module _ (s : List ℕ) (stop i : ℕ) where
+  find_past : (at : ℕ) → length s ≤ at → at ≡ find_at s at stop
+  unfolding up_to
+  find_past at h = sym (rw (drop_of_length-le s h) (add-zero at))
+
   pub find_here : i < length s → get_or s i 0 ≡ stop → i ≡ find_at s i stop
   unfolding up_to
   find_here h e = sym (rw (drop-cons s i 0 h, eq-eqb (get_or s i 0) stop e) (add-zero i))
@@ -46,9 +50,14 @@ module _ (s : List ℕ) (stop i : ℕ) where
   unfolding up_to
   find_further h n = rw (add-one i, drop-cons s i 0 h, ne_eqb (get_or s i 0) stop n) (omega arith)
 
-  pub find_end : length s ≤ i → i ≡ find_at s i stop
-  unfolding up_to
-  find_end h = sym (rw (drop_of_length-le s h) (add-zero i))
+  -- none up to an index at or behind the end
+  pub find_none : (at : ℕ) → length s ≤ i → (at ≤ length s → i ≤ length s) → find_at s at stop ≡ find_at s i stop → max at (length s) ≡ find_at s at stop
+  find_none at h g e =
+      by_cases (dec_le at (length s))
+      (λ y. let end : max at (length s) ≡ i = omega (arith, y, g y) in end ∙ find_past i h ∙ sym e)
+      (λ y.
+      let end : max at (length s) ≡ at = omega (arith, y) in
+      end ∙ find_past at (omega (arith, y)))
 
 -- ---- the number
 
@@ -65,16 +74,16 @@ module _ (s : List ℕ) (at stop limit : ℕ) where
   missing : length text ≤ length front → ended stop text ≡ false
   missing h = le-ltb (length front) (length text) h
 
-  pub stepped_not : (end : ℕ) → end ≡ find_at s at stop → length s ≤ end → ◌≡◌ {A = Step} (record { good = false; value = 0; next = end }) (number_at s at stop limit)
+  pub stepped_not : (end : ℕ) → end ≡ find_at s at stop → length s ≤ end → ◌≡◌ {A = Step} (record { number = None; next = end }) (number_at s at stop limit)
   unfolding number_at numbered
   stepped_not end e h = sym (rw (missing (omega (arith, length-drop at s)), ← e))
 
-  pub stepped_is : (end : ℕ) → end ≡ find_at s at stop → end < length s → (p : Parsed) → p ≡ parsed limit (take (end - at) text)
-      → ◌≡◌ {A = Step} (record { good = p.good; value = p.value; next = end + 1 }) (number_at s at stop limit)
+  pub stepped_is : (end : ℕ) → end ≡ find_at s at stop → end < length s → (p : Option ℕ) → p ≡ told (parsed limit (take (end - at) text))
+      → ◌≡◌ {A = Step} (record { number = p; next = end + 1 }) (number_at s at stop limit)
   unfolding number_at numbered
   stepped_is end e h p ep =
       let long : end - at ≡ length front = omega arith in
-      let word : p ≡ parsed limit front = ep ∙ rw (long, (parted stop text).before) in
+      let word : p ≡ told (parsed limit front) = ep ∙ rw (long, (parted stop text).before) in
       sym (rw (there (omega (arith, length-drop at s)), ← e, ← word))
 
   -- what stands behind it, and that this is still within the text
@@ -96,6 +105,22 @@ module _ (s : List ℕ) (at stop limit : ℕ) where
       by_cases (dec_le (suc (length front)) (length text))
       (λ y. rw (there y) (omega (arith, y, length-drop at s)))
       (λ y. rw (missing (omega (arith, y))) (omega (arith, length-drop at s, (parted stop text).low)))
+
+-- ---- what is told of a number
+
+told_by : (b : Bool) (v w : ℕ) → pick b (Some v) None ≡ Some w → (b ≡ true) × (v ≡ w)
+told_by true v w e = (refl, cc)
+told_by false v w e = absurd (cc)
+
+told_not : (b : Bool) (v : ℕ) → pick b (Some v) None ≡ None → b ≡ false
+told_not true v e = absurd (cc)
+told_not false v e = refl
+
+pub told_some : (p : Parsed) (v : ℕ) → told p ≡ Some v → (p.good ≡ true) × (p.value ≡ v)
+told_some p v e = told_by p.good p.value v e
+
+pub told_none : (p : Parsed) → told p ≡ None → p.good ≡ false
+told_none p e = told_not p.good p.value e
 
 -- ---- a number is within its limit
 

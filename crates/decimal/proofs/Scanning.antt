@@ -1,9 +1,7 @@
 -- Laws of reading a number: what is left of a text, one digit further, and what makes it bad.
-use Prim.Native.Nat.{ℕ, suc, ◌+◌, ◌-◌, ◌*◌, ◌/◌, ◌≤◌, ◌<◌}
+use Prim.Native.Nat.{ℕ, suc, ◌+◌, ◌-◌, ◌*◌, ◌≤◌, ◌<◌}
 use native.Mathlib.Omega.{arith}
 use mathlib.Core.Path.{◌≡◌, refl, sym, ◌∙◌, ap}
-use mathlib.Core.Logic.{by_cases}
-use native.Mathlib.Decide.{dec_le}
 use mathlib.Core.Bool.{true, false, not, and-false}
 use mathlib.Core.List.{List, [], ◌∷◌}
 use lib.Dec.{leb, eqb}
@@ -11,7 +9,6 @@ use lib.ListN.{length, get_or, drop}
 use lib.Seq.{drop-cons, drop-length}
 use native.Mathlib.Numerals.{add-one}
 use borrow.Author.Tests.{le-leb, lt-leb, leb-true, leb-false}
-use Rattle.bits.proofs.Bits.{and_left, and_right}
 use Rattle.decimal.specs.Decimal.{is_digit, digits_alone, leads, value_from, judged, parsed, good, bad}
 
 -- digits only make a number larger
@@ -50,33 +47,11 @@ leads_one [] h = absurd (omega arith)
 leads_one (b ∷ []) h = refl
 leads_one (b ∷ c ∷ s) h = absurd (omega arith)
 
-pub leads_many : (s : List ℕ) → (length s ≡ 0 → ⊥) → (length s ≡ 1 → ⊥) → not (eqb (get_or s 0 0) 48) ≡ leads s
+pub leads_many : (s : List ℕ) → 2 ≤ length s → not (eqb (get_or s 0 0) 48) ≡ leads s
 unfolding leads
-leads_many [] h g = absurd (h refl)
-leads_many (b ∷ []) h g = absurd (g refl)
-leads_many (b ∷ c ∷ s) h g = refl
-
--- ---- a digit
-
-pub digit_low : (b : ℕ) → b < 48 → false ≡ is_digit b
-digit_low b h = sym (rw (lt-leb 48 b h))
-
-pub digit_high : (b : ℕ) → 48 ≤ b → leb b 57 ≡ is_digit b
-digit_high b h = sym (rw (le-leb 48 b h))
-
-pub digit_small : (b : ℕ) → is_digit b ≡ true → (48 ≤ b) × (b ≤ 57)
-digit_small b d = (leb-true 48 b (and_left (leb 48 b) (leb b 57) d), leb-true b 57 (and_right (leb 48 b) (leb b 57) d))
-
--- one digit more stays within a limit
-module _ (v d limit : ℕ) where
-  pub fits_not : limit < d → false ≡ leb (v * 10 + d) limit
-  fits_not h = sym (lt-leb (v * 10 + d) limit (omega arith))
-
-  pub fits_by : d ≤ limit → leb v ((limit - d) / 10) ≡ leb (v * 10 + d) limit
-  fits_by h =
-      by_cases (dec_le v ((limit - d) / 10))
-      (λ y. le-leb v ((limit - d) / 10) y ∙ sym (le-leb (v * 10 + d) limit (omega (arith, y))))
-      (λ y. lt-leb v ((limit - d) / 10) (omega (arith, y)) ∙ sym (lt-leb (v * 10 + d) limit (omega (arith, y))))
+leads_many [] h = absurd (omega arith)
+leads_many (b ∷ []) h = absurd (omega arith)
+leads_many (b ∷ c ∷ s) h = refl
 
 -- ---- the walk
 

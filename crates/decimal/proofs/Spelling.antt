@@ -108,9 +108,6 @@ less : (rest i : ℕ) → rest < 10 ^ suc i → rest / 10 < 10 ^ i
 less rest i h = omega arith
 
 module _ (n : ℕ) (bytes : List ℕ) (rest i : ℕ) (w : Spells n bytes rest i) where
-  pub spells_at : i - 1 < 20
-  spells_at = omega (arith, w.some, w.within)
-
   spells_suc : i ≡ suc (i - 1)
   spells_suc = omega (arith, w.some)
 

@@ -1,7 +1,6 @@
 -- A number as text: its decimal digits, the highest first, with no sign and no zero in front.
-use Rattle.std.specs.Prelude.{ℕ, zero, suc, ◌+◌, ◌-◌, ◌*◌, ◌/◌, ◌%◌, Bool, true, false, not, ◌&&◌, List, [], ◌∷◌, ◌++◌, leb, ltb, eqb, length, replicate}
+use Rattle.std.specs.Prelude.{ℕ, Option, Some, None, zero, suc, ◌+◌, ◌-◌, ◌*◌, ◌/◌, ◌%◌, Bool, true, false, not, ◌&&◌, List, [], ◌∷◌, ◌++◌, leb, ltb, eqb, length, replicate}
 use Rattle.bits.specs.Refusals.{pick}
-use Rattle.decimal.specs.declared.Parsed.{Parsed}
 use Rattle.decimal.specs.declared.Digits.{Digits}
 
 -- the digits of n in front of a text; k only bounds how many digits there can be
@@ -35,6 +34,15 @@ leads (b ∷ c ∷ text) = not (eqb b 48)
 unfoldable pub value_from : ℕ → List ℕ → ℕ
 value_from v [] = v
 value_from v (b ∷ text) = value_from (v * 10 + (b - 48)) text
+
+-- a number that was read; where the text is no number, or one over the limit, not good and 0
+pub record Parsed : Type 0 where
+  pub good : Bool
+  pub value : ℕ
+
+-- what is answered of it
+abbrev pub told : Parsed → Option ℕ
+told p = pick p.good (Some p.value) None
 
 abbrev pub good : ℕ → Parsed
 good n = record { good = true; value = n }

@@ -1,9 +1,8 @@
 -- A number within a text: from an index on, up to the byte that ends it.
 use Rattle.std.specs.Prelude.{ℕ, ◌+◌, Bool, List, [], ◌∷◌, eqb, ltb, length, drop}
 use Rattle.bits.specs.Refusals.{pick}
-use Rattle.decimal.specs.declared.Parsed.{Parsed}
 use Rattle.decimal.specs.declared.Step.{Step}
-use Rattle.decimal.specs.Decimal.{parsed, bad}
+use Rattle.decimal.specs.Decimal.{Parsed, told, parsed, bad}
 
 -- the bytes before the first that is stop, all where none is; and those behind it, none where none is
 unfoldable pub up_to : ℕ → List ℕ → List ℕ
@@ -29,7 +28,6 @@ find_at s at stop = at + length (up_to stop (drop at s))
 -- the number from an index on, and the index behind the stop; where there is none, that of the text's end
 unfoldable pub number_at : List ℕ → ℕ → ℕ → ℕ → Step
 number_at s at stop limit = record {
-  good = (numbered stop limit (drop at s)).good;
-  value = (numbered stop limit (drop at s)).value;
+  number = told (numbered stop limit (drop at s));
   next = pick (ended stop (drop at s)) (find_at s at stop + 1) (find_at s at stop);
 }

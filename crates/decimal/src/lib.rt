@@ -2,55 +2,42 @@
 // reads as a number is the one that is written for it.
 #![tactic(auto)]
 
-ghost use Rattle.std.specs.Prelude.{◌≡◌, ◌+◌, ◌*◌, ◌-◌, ◌<◌, leb};
-ghost use Rattle.decimal.specs.Decimal.{digits_of, parsed, is_digit, leads};
+ghost use Rattle.std.specs.Prelude.{◌≡◌, ◌+◌, ◌*◌, ◌-◌, ◌<◌, leb, drop};
+ghost use Rattle.decimal.specs.Decimal.{digits_of, told, parsed, leads};
 ghost use Rattle.decimal.specs.UpTo.{find_at, number_at};
 
-// A number that was read; where the text is no number, or one over the limit, not good and 0.
-#[derive(Clone, Copy)]
-pub struct Parsed {
-    pub good: bool,
-    pub value: u64,
-}
-
-// A number that stood within a text, and the index behind the byte that ended it.
-#[derive(Clone, Copy)]
+// A number that stood within a text, where one did, and the index behind the byte that ended it: told also where the number is bad.
+#[derive(Clone, Copy, Debug, PartialEq, Eq)]
 pub struct Step {
-    pub good: bool,
-    pub value: u64,
+    pub number: Option<u64>,
     pub next: usize,
 }
 
-// The digits of a number: the text begins at start and runs to the end; the bytes before it are 0.
-#[derive(Clone, Copy)]
+// The digits of a number: the text begins at start and runs to the end; the bytes before it are 0. Without a heap they are lent from here.
+#[derive(Clone, Copy, Debug, PartialEq, Eq)]
 pub struct Digits {
     pub bytes: [u8; 20],
     pub start: usize,
 }
 
-fn wide(b: u8) -> u64
-    ensures { result ≡ b }
-{
-    b as u64
-}
-
-fn is_digit(b: u8) -> bool
-    ensures { result ≡ is_digit b }
-{
-    if b < 48 { false } else { b <= 57 }
+impl Digits {
+    // The text alone.
+    pub fn text(&self) -> &[u8]
+        ensures { result.now ≡ drop self.now.start self.now.bytes }
+    {
+        &self.bytes[self.start.min(20)..]
+    }
 }
 
 // Not empty, and no zero in front of other digits.
 fn leads(s: &[u8]) -> bool
     ensures { result ≡ leads s.now }
 {
-    if s.len() == 0 {
-        return false;
+    match s {
+        [] => false,
+        [_] => true,
+        [first, ..] => *first != b'0',
     }
-    if s.len() == 1 {
-        return true;
-    }
-    s[0] != 48
 }
 
 // Whether a number with one digit more is still within the limit.
@@ -65,53 +52,36 @@ fn fits(v: u64, d: u64, limit: u64) -> bool
 }
 
 // Reads a whole text as a number of at most limit: digits alone, no zero in front of others, no text left over.
-pub fn read_number(s: &[u8], limit: u64) -> Parsed
-    ensures { result ≡ parsed limit s.now }
+pub fn read_number(s: &[u8], limit: u64) -> Option<u64>
+    ensures { result ≡ told (parsed limit s.now) }
 {
     if !leads(s) {
-        return Parsed {
-            good: false,
-            value: 0,
-        };
+        return None;
     }
     let mut v: u64 = 0;
-    let mut i: usize = 0;
-    while i < s.len() {
-        let b = s[i];
-        if !is_digit(b) {
-            return Parsed {
-                good: false,
-                value: 0,
-            };
+    for &b in s {
+        if !b.is_ascii_digit() {
+            return None;
         }
-        let d = wide(b - 48);
+        let d = u64::from(b - b'0');
         if !fits(v, d, limit) {
-            return Parsed {
-                good: false,
-                value: 0,
-            };
+            return None;
         }
         v = v * 10 + d;
-        i += 1;
     }
-    Parsed {
-        good: true,
-        value: v,
-    }
+    Some(v)
 }
 
 // The index of the first such byte from an index on: the text's length where there is none, and an index past the end as it is.
 pub fn find(s: &[u8], at: usize, stop: u8) -> usize
     ensures { result ≡ find_at s.now at stop }
 {
-    let mut i = at;
-    while i < s.len() {
+    for i in at..s.len() {
         if s[i] == stop {
             return i;
         }
-        i += 1;
     }
-    i
+    at.max(s.len())
 }
 
 // The number of at most limit that stands from an index on, up to the byte that has to end it.
@@ -121,15 +91,13 @@ pub fn number_at(s: &[u8], at: usize, stop: u8, limit: u64) -> Step
     let end = find(s, at, stop);
     if s.len() <= end {
         return Step {
-            good: false,
-            value: 0,
+            number: None,
             next: end,
         };
     }
-    let p = read_number(&s[at..end], limit);
+    let number = read_number(&s[at..end], limit);
     Step {
-        good: p.good,
-        value: p.value,
+        number,
         next: end + 1,
     }
 }
@@ -139,7 +107,7 @@ fn glyph(d: u64) -> u8
     requires { d < 10 }
     ensures { result ≡ 48 + d }
 {
-    48 + d as u8
+    b'0' + d as u8
 }
 
 // A number's decimal digits.
@@ -148,6 +116,7 @@ pub fn write_number(n: u64) -> Digits
 {
     let mut bytes = [0u8; 20];
     let mut rest = n;
+    // No `for` over the places: the index goes down with the digits, and it is answered.
     let mut i: usize = 20;
     while 10 <= rest {
         i -= 1;

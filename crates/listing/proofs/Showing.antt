@@ -5,62 +5,45 @@ use native.Mathlib.Numerals.{add-one}
 use mathlib.Core.Path.{◌≡◌, refl, sym, ◌∙◌, ap}
 use mathlib.Core.List.{List}
 use lib.ListN.{get_or}
-use borrow.Author.Tests.{eq-eqb, ne_eqb}
+use lib.Dec.{eqb}
+use Rattle.bits.specs.Refusals.{pick}
 use Rattle.grid.specs.declared.Frame.{Frame}
 use Rattle.grid.specs.declared.Grid.{Grid}
 use Rattle.grid.specs.declared.Rect.{Rect}
 use Rattle.grid.specs.declared.Number.{Number}
-use Rattle.grid.specs.declared.Placed.{Placed}
-use Rattle.grid.specs.Measured.{grid_of}
-use Rattle.grid.specs.Groups.{told, rect_for}
+use Rattle.grid.specs.Groups.{told}
 use Rattle.order.specs.Sums.{sum_to}
+use Rattle.sections.specs.declared.TocGroupKind.{TocGroupKind}
+use Rattle.sections.specs.declared.TocGroupKind.TheVariants.{All, LfGlobal, LfGroup, HfGlobal, GroupPass}
 use Rattle.sections.specs.declared.KindNumbers.{KindNumbers}
 use Rattle.sections.specs.declared.KindAnswer.{KindAnswer}
 use Rattle.sections.specs.Kinds.{numbers_of, kind_of, kind_told, KindTold}
-use Rattle.listing.specs.declared.rows.Row.{Row}
-use Rattle.listing.specs.Listed.{rect_by, row_at}
+use Rattle.listing.specs.Listed.{kind_in}
 
 pub whole_is : (g : Grid) (w h : Number) → w ≡ told g g.width → h ≡ told g g.height
     → ◌≡◌ {A = Rect} (record { left = 0; top = 0; width = w.value; height = h.value }) (record { left = 0; top = 0; width = g.width; height = g.height })
 whole_is g w h p q = rw (p, q)
 
--- the rectangle of a kind, by its number
-module _ (g : Grid) (k : KindNumbers) where
-  pub rect_lf : (p : Placed) → p ≡ rect_for g g.lf_side k.group_idx → k.kind ≡ 2 → p.rect ≡ rect_by g k
-  unfolding rect_by
-  rect_lf p e h = rw (e, eq-eqb k.kind 2 h)
+-- a kind is told whole by its numbers
+abbrev back : KindNumbers → TocGroupKind
+back k =
+    pick (eqb k.kind 1) LfGlobal
+    (pick (eqb k.kind 2) (LfGroup k.group_idx) (pick (eqb k.kind 3) HfGlobal (pick (eqb k.kind 4) (GroupPass k.pass_idx k.group_idx) All)))
 
-  pub rect_group : (p : Placed) → p ≡ rect_for g g.side k.group_idx → (k.kind ≡ 2 → ⊥) → k.kind ≡ 4 → p.rect ≡ rect_by g k
-  unfolding rect_by
-  rect_group p e n h = rw (e, ne_eqb k.kind 2 n, eq-eqb k.kind 4 h)
+by_numbers : (k : TocGroupKind) → back (numbers_of k) ≡ k
+by_numbers All = refl
+by_numbers LfGlobal = refl
+by_numbers (LfGroup i) = refl
+by_numbers HfGlobal = refl
+by_numbers (GroupPass p i) = refl
 
-  pub rect_all : (r : Rect) → r ≡ record { left = 0; top = 0; width = g.width; height = g.height } → (k.kind ≡ 2 → ⊥) → (k.kind ≡ 4 → ⊥) → k.kind ≡ 0 → r ≡ rect_by g k
-  unfolding rect_by
-  rect_all r e n m h = rw (ne_eqb k.kind 2 n, ne_eqb k.kind 4 m, eq-eqb k.kind 0 h) e
+same_kind : (a b : TocGroupKind) → numbers_of a ≡ numbers_of b → a ≡ b
+same_kind a b e = sym (by_numbers a) ∙ ap back e ∙ by_numbers b
 
-  pub rect_none : (k.kind ≡ 2 → ⊥) → (k.kind ≡ 4 → ⊥) → (k.kind ≡ 0 → ⊥) → record { left = 0; top = 0; width = 0; height = 0 } ≡ rect_by g k
-  unfolding rect_by
-  rect_none n m l = rw (ne_eqb k.kind 2 n, ne_eqb k.kind 4 m, ne_eqb k.kind 0 l)
-
--- a section's line
-pub row_is : (f : Frame) (offsets sizes order : List ℕ) (i : ℕ) (a : KindAnswer) (k : KindNumbers) (r : Rect) (sent offset size : ℕ)
-    → kind_told a ≡ kind_of f (record { 0 = i }) → k ≡ numbers_of a.kind → r ≡ rect_by (grid_of f) k → sent ≡ get_or order i 0 → offset ≡ get_or offsets i 0 → size ≡ get_or sizes i 0
-    → ◌≡◌ {A = Row}
-    (record {
-      section = i;
-      kind = k.kind;
-      pass_idx = k.pass_idx;
-      group_idx = k.group_idx;
-      sent = sent;
-      offset = offset;
-      size = size;
-      rect = r;
-    })
-    (row_at f offsets sizes order i)
-unfolding row_at
-row_is f offsets sizes order i a k r sent offset size ea ek er es eo ez =
-    let n : k ≡ (kind_of f (record { 0 = i })).numbers = ek ∙ ap (λ (t : KindTold). t.numbers) ea in
-    rw (er, n, es, eo, ez)
+-- a section's kind
+pub kind_is : (f : Frame) (i : ℕ) (a : KindAnswer) → kind_told a ≡ kind_of f (record { 0 = i }) → a.kind ≡ kind_in f i
+unfolding kind_of kind_in
+kind_is f i a e = same_kind a.kind (kind_in f i) (ap (λ (t : KindTold). t.numbers) e)
 
 -- ---- the sum of the sizes
 

@@ -2,14 +2,15 @@
 use Prim.Native.Nat.{ℕ, ◌≤◌, ◌<◌}
 use native.Mathlib.Omega.{arith}
 use mathlib.Core.Path.{◌≡◌, refl, sym, ◌∙◌, ap}
-use mathlib.Core.Logic.{by_cases}
+use mathlib.Core.Logic.{by_cases, ◌⊎◌, inl, inr}
 use native.Mathlib.Decide.{dec_le}
-use mathlib.Core.Bool.{Bool, true, false, not, ◌&&◌}
+use mathlib.Core.Bool.{Bool, true, false, ◌&&◌, and-false}
 use mathlib.Core.List.{List}
 use lib.Dec.{leb, ltb, eqb}
 use lib.ListN.{length, get_or, take, length-take}
 use lib.Seq.{sets, length-sets}
-use borrow.Author.Tests.{eq-eqb, ne_eqb, le-leb, lt-leb, not-true, not-false}
+use borrow.Author.Tests.{eq-eqb, ne_eqb, le-leb, lt-leb}
+use Rattle.std.specs.Prelude.{Result, Ok, Err}
 use Rattle.bits.specs.declared.Refusal.{Refusal}
 use Rattle.bits.specs.Refusals.{pick, refusal, none}
 use Rattle.grid.specs.declared.Frame.{Frame}
@@ -17,64 +18,38 @@ use Rattle.grid.specs.declared.Grid.{Grid}
 use Rattle.grid.specs.Measured.{grid_of}
 use Rattle.order.specs.Order.{checked, is_order}
 use Rattle.order.specs.Sums.{sum_to}
-use Rattle.listing.specs.declared.TextAnswer.{TextAnswer}
 use Rattle.listing.specs.Put.{Texted, fitted, answer_by}
 use Rattle.listing.specs.Private.{Put}
 use Rattle.listing.specs.Text.{heading, rows_from, total_text}
 use Rattle.listing.specs.Listed.{row_at, listing, listing_text, listing_refusal}
 use Rattle.listing.proofs.Putting.{then, named}
 
-pub text_whole : (n : ℕ) (r : Refusal) → r ≡ none → ◌≡◌ {A = TextAnswer} (record { length = n; refusal = r }) (record { length = n; refusal = none })
-text_whole n r e = rw e
-
 -- a refusal: the bytes stay
-texted_no : (r q : Refusal) (text out : List ℕ) (a : TextAnswer) → q ≡ r → (q.number ≡ 0 → ⊥) → a ≡ record { length = 0; refusal = q } → Texted r text out a out
+texted_no : (r q : Refusal) (text out : List ℕ) → q ≡ r → (q.number ≡ 0 → ⊥) → Texted r text out (Err q) out
 unfolding answer_by
-texted_no r q text out a e h ea =
-    record { answer = ea ∙ rw (← e, ne_eqb q.number 0 h); bytes = sym (rw (← e, ne_eqb q.number 0 h)) }
+texted_no r q text out e h = record { answer = sym (rw (← e, ne_eqb q.number 0 h)); bytes = sym (rw (← e, ne_eqb q.number 0 h)) }
 
 -- none: the text is put
-texted_yes : {out' : List ℕ} {n : ℕ} (r : Refusal) (text out : List ℕ) (a : TextAnswer) → none ≡ r → Put out 0 text out' n
-    → a ≡ record { length = n; refusal = none } → Texted r text out a out'
+texted_yes : {out' : List ℕ} {n : ℕ} (r : Refusal) (text out : List ℕ) → none ≡ r → Put out 0 text out' n → Texted r text out (Ok n) out'
 unfolding answer_by
-texted_yes {out'} {n} r text out a e p ea =
+texted_yes {out'} {n} r text out e p =
     let long : n ≡ length text = omega (arith, p.behind) in
-    record { answer = ea ∙ rw (← e, long); bytes = rw (← e) p.bytes }
-
--- a line alone, measured first
-module _ {l m : List ℕ} {n : ℕ} (text out : List ℕ) (p : Put l 0 text m n) where
-  pub line_short : (q : Refusal) (a : TextAnswer) → length out < n → q ≡ refusal 3 0 → a ≡ record { length = 0; refusal = q } → Texted (fitted text out) text out a out
-  line_short q a h e ea =
-      let short : length out < length text = omega (arith, p.behind) in
-      texted_no (fitted text out) q text out a (e ∙ sym (rw (lt-leb (length text) (length out) short))) (λ z. omega (arith, sym (ap (λ (x : Refusal). x.number) e) ∙ z)) ea
-
-  pub line_fits : {out' : List ℕ} {k : ℕ} (a : TextAnswer) → n ≤ length out → Put out 0 text out' k → a ≡ record { length = k; refusal = none } → Texted (fitted text out) text out a out'
-  line_fits a h q ea =
-      let fits : length text ≤ length out = omega (arith, p.behind) in
-      texted_yes (fitted text out) text out a (sym (rw (le-leb (length text) (length out) fits))) q ea
-
--- the listing's refusals in their order
-module _ (f : Frame) (g : Grid) (m : g ≡ grid_of f) (offsets sizes order out : List ℕ) where
-  listing_own : (g.refusal.number ≡ 0 → ⊥) → g.refusal ≡ listing_refusal f offsets sizes order out
-  unfolding listing_refusal
-  listing_own h = sym (rw (← m, ne_eqb g.refusal.number 0 h))
-
-  module _ (z : g.refusal.number ≡ 0) (t b : Bool) (n : ℕ) (et : t ≡ (leb g.sections (length offsets) && leb g.sections (length sizes)))
-      (en : n ≡ length (listing_text g.sections f offsets sizes order)) (eb : b ≡ (t && leb n (length out)))
-    where
-      both : b ≡ ((leb g.sections (length offsets) && leb g.sections (length sizes)) && leb (length (listing_text g.sections f offsets sizes order)) (length out))
-      both = eb ∙ ap (λ (x : Bool). x && leb n (length out)) et ∙ ap (λ (k : ℕ). (leb g.sections (length offsets) && leb g.sections (length sizes)) && leb k (length out)) en
-
-      listing_short : not b ≡ true → (r : Refusal) → r ≡ refusal 3 0 → r ≡ listing_refusal f offsets sizes order out
-      unfolding listing_refusal
-      listing_short h r e = e ∙ sym (rw (← m, eq-eqb g.refusal.number 0 z, ← both, not-true b h))
-
-      listing_checked : b ≡ true → (r : Refusal) → r ≡ checked g.sections order → r ≡ listing_refusal f offsets sizes order out
-      unfolding listing_refusal
-      listing_checked h r e = e ∙ sym (rw (← m, eq-eqb g.refusal.number 0 z, ← both, h))
+    record { answer = rw (← e, long); bytes = rw (← e) p.bytes }
 
 three : (r : Refusal) → r ≡ refusal 3 0 → r.number ≡ 0 → ⊥
 three r e z = omega (arith, sym (ap (λ (x : Refusal). x.number) e) ∙ z)
+
+-- a line alone, measured first
+module _ {l m : List ℕ} {n : ℕ} (text out : List ℕ) (p : Put l 0 text m n) where
+  pub line_short : (q : Refusal) → length out < n → q ≡ refusal 3 0 → Texted (fitted text out) text out (Err q) out
+  line_short q h e =
+      let short : length out < length text = omega (arith, p.behind) in
+      texted_no (fitted text out) q text out (e ∙ sym (rw (lt-leb (length text) (length out) short))) (three q e)
+
+  pub line_fits : {out' : List ℕ} {k : ℕ} → n ≤ length out → Put out 0 text out' k → Texted (fitted text out) text out (Ok k) out'
+  line_fits h q =
+      let fits : length text ≤ length out = omega (arith, p.behind) in
+      texted_yes (fitted text out) text out (sym (rw (le-leb (length text) (length out) fits))) q
 
 none_of : (a b : Bool) → (pick a (refusal 10 0) (pick b none (refusal 13 0))).number ≡ 0 → pick a (refusal 10 0) (pick b none (refusal 13 0)) ≡ none
 none_of true b e = absurd (omega arith)
@@ -101,48 +76,57 @@ listing_put count f offsets sizes order total p q e r = then p (then q.0 (named 
 
 -- the ways out of the listing
 module _ (f : Frame) (g : Grid) (m : g ≡ grid_of f) (offsets sizes order out : List ℕ) where
-  pub write_own : (a : TextAnswer) → (g.refusal.number ≡ 0 → ⊥) → a ≡ record { length = 0; refusal = g.refusal }
-      → Texted (listing_refusal f offsets sizes order out) (listing f offsets sizes order) out a out
-  write_own a h ea =
-      texted_no (listing_refusal f offsets sizes order out) g.refusal (listing f offsets sizes order) out a (listing_own f g m offsets sizes order out h) h ea
+  abbrev Listed : Result ℕ Refusal → List ℕ → Type 0
+  Listed a after = Texted (listing_refusal f offsets sizes order out) (listing f offsets sizes order) out a after
 
-  module _ {l l' : List ℕ} {n : ℕ} (z : g.refusal.number ≡ 0) (t b : Bool) (et : t ≡ (leb g.sections (length offsets) && leb g.sections (length sizes)))
-      (p : Put l 0 (listing_text g.sections f offsets sizes order) l' n) (eb : b ≡ (t && leb n (length out)))
-    where
-      pub write_short : (q : Refusal) (a : TextAnswer) → not b ≡ true → q ≡ refusal 3 0 → a ≡ record { length = 0; refusal = q }
-          → Texted (listing_refusal f offsets sizes order out) (listing f offsets sizes order) out a out
-      write_short q a h e ea =
-          texted_no (listing_refusal f offsets sizes order out) q (listing f offsets sizes order) out a
-          (listing_short f g m offsets sizes order out z t b n et (put_long p) eb h q e) (three q e) ea
+  pub write_own : (g.refusal.number ≡ 0 → ⊥) → Listed (Err g.refusal) out
+  unfolding listing_refusal
+  write_own h = texted_no _ g.refusal (listing f offsets sizes order) out (sym (rw (← m, ne_eqb g.refusal.number 0 h))) h
 
-      module _ (h : not b ≡ false) (q : Refusal) (e : q ≡ checked g.sections order) where
-        is : q ≡ listing_refusal f offsets sizes order out
-        is = listing_checked f g m offsets sizes order out z t b n et (put_long p) eb (not-false b h) q e
+  module _ {l l' : List ℕ} {n : ℕ} (z : g.refusal.number ≡ 0) (p : Put l 0 (listing_text g.sections f offsets sizes order) l' n) where
+    -- something is too short
+    short : (b : Bool) → b ≡ ((leb g.sections (length offsets) && leb g.sections (length sizes)) && leb n (length out)) → b ≡ false
+        → (q : Refusal) → q ≡ refusal 3 0 → Listed (Err q) out
+    unfolding listing_refusal
+    short b eb h q e =
+        let long : n ≡ length (listing_text g.sections f offsets sizes order) = put_long p in
+        texted_no _ q (listing f offsets sizes order) out (e ∙ sym (rw (← m, eq-eqb g.refusal.number 0 z, ← long, ← eb, h))) (three q e)
 
-        pub write_bad : (a : TextAnswer) → (q.number ≡ 0 → ⊥) → a ≡ record { length = 0; refusal = q }
-            → Texted (listing_refusal f offsets sizes order out) (listing f offsets sizes order) out a out
-        write_bad a y ea = texted_no (listing_refusal f offsets sizes order out) q (listing f offsets sizes order) out a is y ea
+    pub write_short : (length offsets < g.sections) ⊎ ((g.sections ≤ length offsets × length sizes < g.sections)
+        ⊎ (g.sections ≤ length offsets × g.sections ≤ length sizes × length out < n)) → (q : Refusal) → q ≡ refusal 3 0 → Listed (Err q) out
+    write_short (inl h) q e = short _ refl (rw (lt-leb g.sections (length offsets) h)) q e
+    write_short (inr (inl w)) q e = short _ refl (rw (lt-leb g.sections (length sizes) w.1, and-false (leb g.sections (length offsets)))) q e
+    write_short (inr (inr w)) q e =
+        short _ refl (rw (lt-leb n (length out) w.2, and-false (leb g.sections (length offsets) && leb g.sections (length sizes)))) q e
 
-        pub write_all : {out' : List ℕ} {k : ℕ} (a : TextAnswer) → q.number ≡ 0 → Put out 0 (listing_text g.sections f offsets sizes order) out' k
-            → a ≡ record { length = k; refusal = none } → Texted (listing_refusal f offsets sizes order out) (listing f offsets sizes order) out a out'
-        write_all a y w ea =
-            let clear : q ≡ none = e ∙ checked_none g.sections order (sym (ap (λ (x : Refusal). x.number) e) ∙ y) in
-            texted_yes (listing_refusal f offsets sizes order out) (listing f offsets sizes order) out a (sym clear ∙ is)
-            (named (ap (λ (x : Grid). listing_text x.sections f offsets sizes order) m) w) ea
+    module _ (o : g.sections ≤ length offsets) (s : g.sections ≤ length sizes) (h : n ≤ length out) (q : Refusal) (e : q ≡ checked g.sections order) where
+      is : q ≡ listing_refusal f offsets sizes order out
+      unfolding listing_refusal
+      is =
+          let long : n ≡ length (listing_text g.sections f offsets sizes order) = put_long p in
+          e ∙ sym (rw (← m, eq-eqb g.refusal.number 0 z, ← long, le-leb g.sections (length offsets) o, le-leb g.sections (length sizes) s, le-leb n (length out) h))
+
+      pub write_bad : (q.number ≡ 0 → ⊥) → Listed (Err q) out
+      write_bad y = texted_no _ q (listing f offsets sizes order) out is y
+
+      pub write_all : {out' : List ℕ} {k : ℕ} → q.number ≡ 0 → Put out 0 (listing_text g.sections f offsets sizes order) out' k → Listed (Ok k) out'
+      write_all y w =
+          let clear : q ≡ none = e ∙ checked_none g.sections order (sym (ap (λ (x : Refusal). x.number) e) ∙ y) in
+          texted_yes _ (listing f offsets sizes order) out (sym clear ∙ is) (named (ap (λ (x : Grid). listing_text x.sections f offsets sizes order) m) w)
 
 -- a text that was written lies within the lent bytes
 put_size : (b : Bool) (text out : List ℕ) → length (pick b (sets out 0 text) out) ≡ length out
 put_size true text out = length-sets out 0 text
 put_size false text out = refl
 
-pub texted_within : {out' : List ℕ} (text out : List ℕ) (a : TextAnswer) → Texted (fitted text out) text out a out' → a.length ≤ length out'
+pub texted_within : {out' : List ℕ} (text out : List ℕ) (a : Result ℕ Refusal) (n : ℕ) → Texted (fitted text out) text out a out' → a ≡ Ok n → n ≤ length out'
 unfolding answer_by
-texted_within {out'} text out a w =
-    let is : a.length ≡ pick (eqb (fitted text out).number 0) (length text) 0 = ap (λ (x : TextAnswer). x.length) w.answer in
+texted_within {out'} text out a n w h =
     let same : length out' ≡ length out = ap length w.bytes ∙ put_size (eqb (fitted text out).number 0) text out in
+    let is : answer_by (fitted text out) text ≡ Ok n = sym w.answer ∙ h in
     by_cases (dec_le (length text) (length out))
-    (λ y. let e : a.length ≡ length text = is ∙ rw (le-leb (length text) (length out) y) in omega (arith, y))
-    (λ y. let e : a.length ≡ 0 = is ∙ rw (lt-leb (length text) (length out) (omega (arith, y))) in omega arith)
+    (λ y. let e : n ≡ length text = cc (rw (le-leb (length text) (length out) y) at is) in omega (arith, y))
+    (λ y. absurd (cc (rw (lt-leb (length text) (length out) (omega (arith, y))) at is)))
 
-pub texted_part : {out' : List ℕ} (text out : List ℕ) (a : TextAnswer) → Texted (fitted text out) text out a out' → a.length ≡ length (take a.length out')
-texted_part {out'} text out a w = omega (arith, texted_within text out a w, length-take a.length out')
+pub texted_part : {out' : List ℕ} (text out : List ℕ) (a : Result ℕ Refusal) (n : ℕ) → Texted (fitted text out) text out a out' → a ≡ Ok n → n ≡ length (take n out')
+texted_part {out'} text out a n w h = omega (arith, texted_within text out a n w h, length-take n out')

@@ -2,26 +2,37 @@
 use Prim.Native.Nat.{ℕ, suc, ◌+◌, ◌-◌, ◌*◌, ◌≤◌, ◌<◌}
 use native.Mathlib.Omega.{arith}
 use native.Mathlib.Numerals.{add-one}
-use mathlib.Core.Path.{◌≡◌, ap}
-use mathlib.Core.Bool.{Bool}
-use mathlib.Core.List.{List, [], ◌∷◌, ◌++◌}
-use lib.ListN.{length}
+use mathlib.Core.Path.{◌≡◌, refl, ap}
+use mathlib.Core.List.{List, [], ◌∷◌, ◌++◌, map}
+use lib.ListN.{length, get_or}
+use Rattle.std.specs.Prelude.{Option, Some, None}
 use Rattle.decimal.specs.Decimal.{decimal}
+use Rattle.grid.specs.declared.Rect.{Rect}
 use Rattle.listing.specs.declared.rows.Row.{Row}
-use Rattle.listing.specs.Private.{Put, cells, shown_by, numbers_in}
-use Rattle.listing.specs.Text.{joined, column, kind_name, row_text, rows_from}
+use Rattle.listing.specs.Private.{Put}
+use Rattle.listing.specs.Text.{joined, column, kind_name, sides_of, columns_of, row_text, rows_from}
 use Rattle.listing.proofs.Putting.{then, named, Leaves, leaves_all, leaves_less, leaves_none}
 
 -- a line: its number, its kind's name, and its columns
-pub row_put : {l0 l1 l2 l3 : List ℕ} {i0 i1 i2 i3 : ℕ} (r : Row) (shown : List Bool) (numbers : List ℕ) → shown ≡ shown_by r.kind → numbers ≡ numbers_in r
+sides_long : (q : Option Rect) → length (sides_of q) ≡ 4
+sides_long (Some r) = refl
+sides_long None = refl
+
+-- taken apart and put together again
+pub sides_each : (q : Option Rect) (l : List (Option ℕ)) → l ≡ sides_of q
+    → ◌≡◌ {A = List (Option ℕ)} (get_or l 0 None ∷ get_or l 1 None ∷ get_or l 2 None ∷ get_or l 3 None ∷ []) (sides_of q)
+sides_each (Some r) l e = rw e
+sides_each None l e = rw e
+
+pub row_put : {l0 l1 l2 l3 : List ℕ} {i0 i1 i2 i3 : ℕ} (r : Row) (columns : List (Option ℕ)) → columns ≡ columns_of r
     → Put l0 i0 (decimal r.section) l1 i1 × (i1 ≤ i0 + 20)
     → Put l1 i1 (9 ∷ kind_name r.kind) l2 i2 × (i2 ≤ i1 + 10)
-    → Put l2 i2 (joined (cells shown numbers)) l3 i3 × (i3 ≤ i2 + 21 * length numbers + 1)
+    → Put l2 i2 (joined (map column columns)) l3 i3 × (i3 ≤ i2 + 21 * length columns + 1)
     → Put l0 i0 (row_text r) l3 i3 × (i3 ≤ i0 + 256)
-unfolding row_text shown_by numbers_in cells column
-row_put r shown numbers es en p q c =
-    let all = rw (es, en) at c in
-    (then p.0 (then q.0 all.0), omega (arith, p.1, q.1, all.1))
+unfolding row_text columns_of
+row_put r columns e p q c =
+    let all = rw e at c in
+    (then p.0 (then q.0 all.0), omega (arith, p.1, q.1, all.1, sides_long r.rect))
 
 -- ---- the walk over the sections
 

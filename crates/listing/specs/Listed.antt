@@ -1,44 +1,41 @@
 -- The listing of an accepted table.
-use Rattle.std.specs.Prelude.{ℕ, ◌&&◌, List, ◌++◌, eqb, leb, length, get_or}
+use Rattle.std.specs.Prelude.{ℕ, ◌&&◌, List, ◌++◌, eqb, leb, ltb, length, get_or, Option, Some, None}
 use Rattle.bits.specs.declared.Refusal.{Refusal}
 use Rattle.bits.specs.Refusals.{pick, refusal}
 use Rattle.grid.specs.declared.Frame.{Frame}
 use Rattle.grid.specs.declared.Grid.{Grid}
 use Rattle.grid.specs.declared.Rect.{Rect}
 use Rattle.grid.specs.Measured.{grid_of}
-use Rattle.grid.specs.Groups.{rect_for}
+use Rattle.grid.specs.Groups.{judge, rect_for}
 use Rattle.order.specs.Order.{checked}
 use Rattle.order.specs.Sums.{sum_to}
-use Rattle.sections.specs.declared.KindNumbers.{KindNumbers}
-use Rattle.sections.specs.Kinds.{kind_of}
+use Rattle.sections.specs.declared.TocGroupKind.{TocGroupKind}
+use Rattle.sections.specs.declared.TocGroupKind.TheVariants.{All, LfGlobal, LfGroup, HfGlobal, GroupPass}
+use Rattle.sections.specs.Kinds.{kind_at}
 use Rattle.listing.specs.declared.rows.Row.{Row}
 use Rattle.listing.specs.Text.{heading, rows_from, total_text}
 
 -- an LF group's rectangle or a group's, clipped; All has the whole colour sample size; the others have none
-unfoldable pub rect_by : Grid → KindNumbers → Rect
-rect_by g k =
-    pick (eqb k.kind 2)
-    (rect_for g g.lf_side k.group_idx).rect
-    (pick (eqb k.kind 4)
-    (rect_for g g.side k.group_idx).rect
-    (pick (eqb k.kind 0)
-    (record { left = 0; top = 0; width = g.width; height = g.height })
-    (record { left = 0; top = 0; width = 0; height = 0 })))
+unfoldable pub rect_by : Grid → TocGroupKind → Option Rect
+rect_by g All = Some (record { left = 0; top = 0; width = g.width; height = g.height })
+rect_by g LfGlobal = None
+rect_by g (LfGroup i) = Some (rect_for g g.lf_side i).rect
+rect_by g HfGlobal = None
+rect_by g (GroupPass p i) = Some (rect_for g g.side i).rect
 
-abbrev pub kind_numbers : Frame → ℕ → KindNumbers
-kind_numbers f i = (kind_of f (record { 0 = i })).numbers
+-- the kind of section i; where the frame has no such section, All
+unfoldable pub kind_in : Frame → ℕ → TocGroupKind
+kind_in f i = pick (eqb (judge (grid_of f) (ltb i (grid_of f).sections)).number 0) (kind_at (grid_of f) i) All
 
 -- what the listing shows of section i: its kind, its words of the three tables, and its rectangle
 unfoldable pub row_at : Frame → List ℕ → List ℕ → List ℕ → ℕ → Row
 row_at f offsets sizes order i = record {
   section = i;
-  kind = (kind_numbers f i).kind;
-  pass_idx = (kind_numbers f i).pass_idx;
-  group_idx = (kind_numbers f i).group_idx;
+  kind = kind_in f i;
   sent = get_or order i 0;
   offset = get_or offsets i 0;
   size = get_or sizes i 0;
-  rect = rect_by (grid_of f) (kind_numbers f i);
+  rect = rect_by (grid_of f) (kind_in f i);
 }
 
 -- the heading, a line a section, and the total

@@ -1,8 +1,10 @@
 -- The listing's text: lines of columns with a tab between two, and a line feed after each line.
-use Rattle.std.specs.Prelude.{ℕ, zero, suc, Bool, ◌||◌, List, [], ◌∷◌, ◌++◌, eqb}
+use Rattle.std.specs.Prelude.{ℕ, zero, suc, List, [], ◌∷◌, ◌++◌, map, Option, Some, None}
 use Rattle.bits.specs.declared.Refusal.{Refusal}
-use Rattle.bits.specs.Refusals.{pick}
 use Rattle.decimal.specs.Decimal.{decimal}
+use Rattle.grid.specs.declared.Rect.{Rect}
+use Rattle.sections.specs.declared.TocGroupKind.{TocGroupKind}
+use Rattle.sections.specs.declared.TocGroupKind.TheVariants.{All, LfGlobal, LfGroup, HfGlobal, GroupPass}
 use Rattle.listing.specs.declared.rows.Row.{Row}
 
 -- the columns behind another, a tab (9) before each; then the line feed (10)
@@ -15,8 +17,9 @@ abbrev pub line : List ℕ → List (List ℕ) → List ℕ
 line first more = first ++ joined more
 
 -- a column with a number, or `-` (45) where it has nothing
-unfoldable pub column : Bool → ℕ → List ℕ
-column shown n = pick shown (decimal n) (45 ∷ [])
+unfoldable pub column : Option ℕ → List ℕ
+column (Some n) = decimal n
+column None = 45 ∷ []
 
 -- the first line: `section`, `kind`, `pass`, `group`, `sent`, `offset`, `size`, `left`, `top`, `width`, `height`
 unfoldable pub heading : List ℕ
@@ -33,44 +36,41 @@ heading =
     (119 ∷ 105 ∷ 100 ∷ 116 ∷ 104 ∷ []) ∷
     (104 ∷ 101 ∷ 105 ∷ 103 ∷ 104 ∷ 116 ∷ []) ∷ [])
 
--- the kinds by name: All 0, LfGlobal 1, LfGroup 2, HfGlobal 3, GroupPass 4
-unfoldable pub kind_name : ℕ → List ℕ
-kind_name kind =
-    pick (eqb kind 0)
-    (65 ∷ 108 ∷ 108 ∷ [])
-    (pick (eqb kind 1)
-    (76 ∷ 102 ∷ 71 ∷ 108 ∷ 111 ∷ 98 ∷ 97 ∷ 108 ∷ [])
-    (pick (eqb kind 2)
-    (76 ∷ 102 ∷ 71 ∷ 114 ∷ 111 ∷ 117 ∷ 112 ∷ [])
-    (pick (eqb kind 3)
-    (72 ∷ 102 ∷ 71 ∷ 108 ∷ 111 ∷ 98 ∷ 97 ∷ 108 ∷ [])
-    (71 ∷ 114 ∷ 111 ∷ 117 ∷ 112 ∷ 80 ∷ 97 ∷ 115 ∷ 115 ∷ []))))
+-- the kinds by name
+unfoldable pub kind_name : TocGroupKind → List ℕ
+kind_name All = 65 ∷ 108 ∷ 108 ∷ []
+kind_name LfGlobal = 76 ∷ 102 ∷ 71 ∷ 108 ∷ 111 ∷ 98 ∷ 97 ∷ 108 ∷ []
+kind_name (LfGroup i) = 76 ∷ 102 ∷ 71 ∷ 114 ∷ 111 ∷ 117 ∷ 112 ∷ []
+kind_name HfGlobal = 72 ∷ 102 ∷ 71 ∷ 108 ∷ 111 ∷ 98 ∷ 97 ∷ 108 ∷ []
+kind_name (GroupPass p i) = 71 ∷ 114 ∷ 111 ∷ 117 ∷ 112 ∷ 80 ∷ 97 ∷ 115 ∷ 115 ∷ []
 
--- a GroupPass shows its pass; it and an LfGroup show their group, and their rectangle; All shows the whole
-abbrev pub has_pass : ℕ → Bool
-has_pass kind = eqb kind 4
+-- a GroupPass shows its pass; it and an LfGroup show their group
+abbrev pub pass_of : TocGroupKind → Option ℕ
+pass_of All = None
+pass_of LfGlobal = None
+pass_of (LfGroup i) = None
+pass_of HfGlobal = None
+pass_of (GroupPass p i) = Some p
 
-abbrev pub has_group : ℕ → Bool
-has_group kind = eqb kind 2 || eqb kind 4
+abbrev pub group_of : TocGroupKind → Option ℕ
+group_of All = None
+group_of LfGlobal = None
+group_of (LfGroup i) = Some i
+group_of HfGlobal = None
+group_of (GroupPass p i) = Some i
 
-abbrev pub has_rect : ℕ → Bool
-has_rect kind = eqb kind 0 || has_group kind
+-- a rectangle's four columns
+abbrev pub sides_of : Option Rect → List (Option ℕ)
+sides_of None = None ∷ None ∷ None ∷ None ∷ []
+sides_of (Some r) = Some r.left ∷ Some r.top ∷ Some r.width ∷ Some r.height ∷ []
+
+-- the columns behind the kind's name
+unfoldable pub columns_of : Row → List (Option ℕ)
+columns_of r = pass_of r.kind ∷ group_of r.kind ∷ Some r.sent ∷ Some r.offset ∷ Some r.size ∷ sides_of r.rect
 
 -- a section's line
 unfoldable pub row_text : Row → List ℕ
-row_text r =
-    line (decimal r.section)
-    (kind_name r.kind
-    ∷ column (has_pass r.kind) r.pass_idx
-    ∷ column (has_group r.kind) r.group_idx
-    ∷ decimal r.sent
-    ∷ decimal r.offset
-    ∷ decimal r.size
-    ∷ column (has_rect r.kind) r.rect.left
-    ∷ column (has_rect r.kind) r.rect.top
-    ∷ column (has_rect r.kind) r.rect.width
-    ∷ column (has_rect r.kind) r.rect.height
-    ∷ [])
+row_text r = line (decimal r.section) (kind_name r.kind ∷ map column (columns_of r))
 
 -- n lines from section i on
 unfoldable pub rows_from : (ℕ → Row) → ℕ → ℕ → List ℕ

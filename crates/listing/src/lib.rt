@@ -6,11 +6,9 @@ mod put;
 mod rows;
 
 ghost use Rattle.std.specs.Prelude.{◌≡◌, map, ◌≤◌, length};
-ghost use Rattle.bits.specs.Refusals.{none};
-ghost use Rattle.decimal.specs.Decimal.{decimal};
 ghost use Rattle.listing.specs.Put.{Texted, fitted};
 ghost use Rattle.listing.specs.Private.{Put};
-ghost use Rattle.listing.specs.Text.{line, heading, refused_text, order_text};
+ghost use Rattle.listing.specs.Text.{column, line, heading, refused_text, order_text};
 ghost use Rattle.listing.specs.Listed.{listing, listing_text, listing_refusal};
 
 use bits::Refusal;
@@ -19,63 +17,41 @@ use put::{put_bytes, put_columns};
 pub use rows::Row;
 use rows::{put_rows, sum_sizes};
 
-// How many bytes the text has, or why nothing was written (beside a refusal, 0).
-#[derive(Clone, Copy)]
-pub struct TextAnswer {
-    pub length: usize,
-    pub refusal: Refusal,
-}
-
-fn refused_text(refusal: Refusal) -> TextAnswer
-    ensures { result ≡ record { length = 0; refusal = refusal } }
-{
-    TextAnswer { length: 0, refusal }
-}
-
-fn whole_text(n: usize) -> TextAnswer
-    ensures { result ≡ record { length = n; refusal = none } }
-{
-    TextAnswer {
-        length: n,
-        refusal: bits::accepted(),
-    }
-}
-
-// A line of a word and a few numbers.
-fn put_line(out: &mut [u8], at: usize, word: &[u8], numbers: &[u64]) -> usize
-    requires { (at ≤ 576460752303423488) × (length word.now ≤ 4096) × (length numbers.now ≤ 4) }
-    ensures { Put out.old at (line word.now (map decimal numbers.now)) out.new result }
+// A line of a word and a few columns.
+fn put_line(out: &mut [u8], at: usize, word: &[u8], columns: &[Option<u64>]) -> usize
+    requires { (at ≤ 576460752303423488) × (length word.now ≤ 4096) × (length columns.now ≤ 4096) }
+    ensures { Put out.old at (line word.now (map column columns.now)) out.new result }
 {
     let a = put_bytes(out, at, word);
-    put_columns(out, a, &[true; 4], numbers)
+    put_columns(out, a, columns)
 }
 
-// Such a line alone; 3 where it doesn't fit.
-fn write_line(word: &[u8], numbers: &[u64], out: &mut [u8]) -> TextAnswer
-    requires { (length word.now ≤ 4096) × (length numbers.now ≤ 4) }
-    ensures { Texted (fitted (line word.now (map decimal numbers.now)) out.old)
-        (line word.now (map decimal numbers.now)) out.old result out.new }
+// Such a line alone: how many bytes it has, or 3 where it doesn't fit.
+fn write_line(word: &[u8], columns: &[Option<u64>], out: &mut [u8]) -> Result<usize, Refusal>
+    requires { (length word.now ≤ 4096) × (length columns.now ≤ 4096) }
+    ensures { Texted (fitted (line word.now (map column columns.now)) out.old)
+        (line word.now (map column columns.now)) out.old result out.new }
 {
     let mut nowhere = [0u8; 1];
-    let length = put_line(&mut nowhere, 0, word, numbers);
+    let length = put_line(&mut nowhere, 0, word, columns);
     if out.len() < length {
-        return refused_text(bits::refused(3, 0));
+        return Err(bits::refused(3, 0));
     }
-    whole_text(put_line(out, 0, word, numbers))
+    Ok(put_line(out, 0, word, columns))
 }
 
-// `refused`, number, place; 3 where the line doesn't fit.
-pub fn write_refused(r: Refusal, out: &mut [u8]) -> TextAnswer
+// `refused`, number, place: how many bytes that is, or 3 where it doesn't fit.
+pub fn write_refused(r: Refusal, out: &mut [u8]) -> Result<usize, Refusal>
     ensures { Texted (fitted (refused_text r) out.old) (refused_text r) out.old result out.new }
 {
-    write_line(b"refused", &[r.number as u64, r.place], out)
+    write_line(b"refused", &[Some(u64::from(r.number)), Some(r.place)], out)
 }
 
 // `order` and the place after the flag, where the frame needs an order; 3 where the line doesn't fit.
-pub fn write_order_needed(place: u64, out: &mut [u8]) -> TextAnswer
+pub fn write_order_needed(place: u64, out: &mut [u8]) -> Result<usize, Refusal>
     ensures { Texted (fitted (order_text place) out.old) (order_text place) out.old result out.new }
 {
-    write_line(b"order", &[place], out)
+    write_line(b"order", &[Some(place)], out)
 }
 
 fn put_heading(out: &mut [u8]) -> usize
@@ -102,7 +78,7 @@ fn put_listing(
 {
     let a = put_heading(out);
     let b = put_rows(out, a, f, count, offsets, sizes, order);
-    put_line(out, b, b"total", &[sum_sizes(sizes, count)])
+    put_line(out, b, b"total", &[Some(sum_sizes(sizes, count))])
 }
 
 // The listing of an accepted table: 8, 9, 10, then 3 where a table has too few words or the text doesn't fit, then 13.
@@ -112,25 +88,24 @@ pub fn write_listing(
     sizes: &[u32],
     order: &[u32],
     out: &mut [u8],
-) -> TextAnswer
+) -> Result<usize, Refusal>
     ensures { Texted (listing_refusal f offsets.now sizes.now order.now out.old)
         (listing f offsets.now sizes.now order.now) out.old result out.new }
 {
     let g = grid::measure(f);
     let own = g.refusal;
     if own.number != 0 {
-        return refused_text(own);
+        return Err(own);
     }
     let n = g.sections as usize;
     let mut nowhere = [0u8; 1];
     let length = put_listing(&mut nowhere, f, g.sections, offsets, sizes, order);
-    let tables = bits::both(n <= offsets.len(), n <= sizes.len());
-    if !bits::both(tables, length <= out.len()) {
-        return refused_text(bits::refused(3, 0));
+    if offsets.len() < n || sizes.len() < n || out.len() < length {
+        return Err(bits::refused(3, 0));
     }
     let bad = order::check_order(order, g.sections);
     if bad.number != 0 {
-        return refused_text(bad);
+        return Err(bad);
     }
-    whole_text(put_listing(out, f, g.sections, offsets, sizes, order))
+    Ok(put_listing(out, f, g.sections, offsets, sizes, order))
 }

@@ -2,41 +2,31 @@
 ghost use Rattle.std.specs.Prelude.{◌≡◌, ◌+◌, ◌≤◌, get_or};
 ghost use Rattle.grid.specs.Measured.{grid_of};
 ghost use Rattle.order.specs.Sums.{sum_to};
-ghost use Rattle.listing.specs.Private.{Put, shown_by, numbers_in};
-ghost use Rattle.listing.specs.Text.{row_text, rows_from};
+ghost use Rattle.listing.specs.Private.{Put};
+ghost use Rattle.listing.specs.Text.{pass_of, group_of, sides_of, columns_of, row_text, rows_from};
 ghost use Rattle.listing.specs.Listed.{rect_by, row_at};
 
 use crate::put::{put_columns, put_name, put_number};
 use grid::{Frame, Rect};
 use order::SectionNumber;
-use sections::KindNumbers;
+use sections::TocGroupKind;
 
-// What a section's line shows: its number, its kind as a number, its words of the three tables and its rectangle; 0 where a column has nothing.
+// What a section's line shows: its number, its kind, its words of the three tables and its rectangle, where it has one.
 #[derive(Clone, Copy)]
 pub struct Row {
     pub section: u32,
-    pub kind: u32,
-    pub pass_idx: u32,
-    pub group_idx: u32,
+    pub kind: TocGroupKind,
     pub sent: u32,
     pub offset: u64,
     pub size: u32,
-    pub rect: Rect,
+    pub rect: Option<Rect>,
 }
 
-// A word of a table, 0 past its end.
-fn word(t: &[u32], i: u32) -> u32
-    ensures { result ≡ get_or t.now i 0 }
+// A word of a table; past its end, what is named.
+fn word<T: Copy>(t: &[T], i: u32, past: T) -> T
+    ensures { result ≡ get_or t.now i past }
 {
-    let at = i as usize;
-    if at < t.len() { t[at] } else { 0 }
-}
-
-fn long_word(t: &[u64], i: u32) -> u64
-    ensures { result ≡ get_or t.now i 0 }
-{
-    let at = i as usize;
-    if at < t.len() { t[at] } else { 0 }
+    t.get(i as usize).copied().unwrap_or(past)
 }
 
 // The whole colour sample size.
@@ -54,25 +44,15 @@ fn whole(f: Frame) -> Rect
 }
 
 // The rectangle of a kind.
-fn rect_of(f: Frame, k: KindNumbers) -> Rect
-    ensures { result ≡ rect_by (grid_of f) k }
+#[tactic(auto, unfolding(crate::specs::Listed::rect_by))]
+fn rect_of(f: Frame, kind: TocGroupKind) -> Option<Rect>
+    ensures { result ≡ rect_by (grid_of f) kind }
 {
-    if k.kind == 2 {
-        let lf = grid::lf_group_rect(f, k.group_idx);
-        return lf.rect;
-    }
-    if k.kind == 4 {
-        let group = grid::group_rect(f, k.group_idx);
-        return group.rect;
-    }
-    if k.kind == 0 {
-        return whole(f);
-    }
-    Rect {
-        left: 0,
-        top: 0,
-        width: 0,
-        height: 0,
+    match kind {
+        TocGroupKind::All => Some(whole(f)),
+        TocGroupKind::LfGroup(i) => Some(grid::lf_group_rect(f, i).rect),
+        TocGroupKind::GroupPass { group_idx, .. } => Some(grid::group_rect(f, group_idx).rect),
+        TocGroupKind::LfGlobal | TocGroupKind::HfGlobal => None,
     }
 }
 
@@ -80,50 +60,66 @@ fn rect_of(f: Frame, k: KindNumbers) -> Rect
 pub fn row_at(f: Frame, offsets: &[u64], sizes: &[u32], order: &[u32], i: u32) -> Row
     ensures { result ≡ row_at f offsets.now sizes.now order.now i }
 {
-    let answer = sections::kind_of(f, SectionNumber(i));
-    let kind = answer.kind;
-    let k = sections::kind_numbers(kind);
-    let rect = rect_of(f, k);
-    let sent = word(order, i);
-    let offset = long_word(offsets, i);
-    let size = word(sizes, i);
+    let kind = sections::kind_of(f, SectionNumber(i)).kind;
     Row {
         section: i,
-        kind: k.kind,
-        pass_idx: k.pass_idx,
-        group_idx: k.group_idx,
-        sent,
-        offset,
-        size,
-        rect,
+        kind,
+        sent: word(order, i, 0),
+        offset: word(offsets, i, 0),
+        size: word(sizes, i, 0),
+        rect: rect_of(f, kind),
     }
 }
 
-// Which columns behind a kind's name are shown: a GroupPass shows its pass, it and an LfGroup their group, and these and All their rectangle.
-fn shown_by(kind: u32) -> [bool; 9]
-    ensures { result ≡ shown_by kind }
+// A GroupPass shows its pass; it and an LfGroup show their group.
+fn pass_of(kind: TocGroupKind) -> Option<u64>
+    ensures { result ≡ pass_of kind }
 {
-    let pass = kind == 4;
-    let group = bits::either(kind == 2, pass);
-    let rect = bits::either(kind == 0, group);
-    [pass, group, true, true, true, rect, rect, rect, rect]
+    match kind {
+        TocGroupKind::GroupPass { pass_idx, .. } => Some(u64::from(pass_idx)),
+        TocGroupKind::All
+        | TocGroupKind::LfGlobal
+        | TocGroupKind::LfGroup(_)
+        | TocGroupKind::HfGlobal => None,
+    }
 }
 
-// The numbers of these columns.
-fn numbers_in(r: Row) -> [u64; 9]
-    ensures { result ≡ numbers_in r }
+fn group_of(kind: TocGroupKind) -> Option<u64>
+    ensures { result ≡ group_of kind }
 {
-    let rect = r.rect;
+    match kind {
+        TocGroupKind::LfGroup(group_idx) | TocGroupKind::GroupPass { group_idx, .. } => {
+            Some(u64::from(group_idx))
+        }
+        TocGroupKind::All | TocGroupKind::LfGlobal | TocGroupKind::HfGlobal => None,
+    }
+}
+
+// A rectangle's four columns.
+fn sides_of(rect: Option<Rect>) -> [Option<u64>; 4]
+    ensures { result ≡ sides_of rect }
+{
+    match rect {
+        Some(r) => [r.left, r.top, r.width, r.height].map(|side| Some(u64::from(side))),
+        None => [None; 4],
+    }
+}
+
+// The columns behind the kind's name.
+fn columns_of(r: Row) -> [Option<u64>; 9]
+    ensures { result ≡ columns_of r }
+{
+    let [left, top, width, height] = sides_of(r.rect);
     [
-        r.pass_idx as u64,
-        r.group_idx as u64,
-        r.sent as u64,
-        r.offset,
-        r.size as u64,
-        rect.left as u64,
-        rect.top as u64,
-        rect.width as u64,
-        rect.height as u64,
+        pass_of(r.kind),
+        group_of(r.kind),
+        Some(u64::from(r.sent)),
+        Some(r.offset),
+        Some(u64::from(r.size)),
+        left,
+        top,
+        width,
+        height,
     ]
 }
 
@@ -132,11 +128,9 @@ fn put_row(out: &mut [u8], at: usize, r: Row) -> usize
     requires { at ≤ 576460752303423488 }
     ensures { Put out.old at (row_text r) out.new result × (result ≤ at + 256) }
 {
-    let shown = shown_by(r.kind);
-    let numbers = numbers_in(r);
-    let a = put_number(out, at, r.section as u64);
+    let a = put_number(out, at, u64::from(r.section));
     let b = put_name(out, a, r.kind);
-    put_columns(out, b, &shown, &numbers)
+    put_columns(out, b, &columns_of(r))
 }
 
 // A line for each section, in the order of their numbers.
@@ -154,11 +148,8 @@ pub fn put_rows(
         × (result ≤ 16781312) }
 {
     let mut end = at;
-    let mut i: u32 = 0;
-    while i < count {
-        let r = row_at(f, offsets, sizes, order, i);
-        end = put_row(out, end, r);
-        i += 1;
+    for i in 0..count {
+        end = put_row(out, end, row_at(f, offsets, sizes, order, i));
     }
     end
 }
@@ -169,10 +160,8 @@ pub fn sum_sizes(sizes: &[u32], count: u32) -> u64
     ensures { result ≡ sum_to count (λ i. get_or sizes.now i 0) }
 {
     let mut total: u64 = 0;
-    let mut i: u32 = 0;
-    while i < count {
-        total += word(sizes, i) as u64;
-        i += 1;
+    for i in 0..count {
+        total += u64::from(word(sizes, i, 0));
     }
     total
 }

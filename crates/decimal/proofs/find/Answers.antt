@@ -1,6 +1,6 @@
 -- `find`: from each index reached on, the first such byte is the same one.
 use mathlib.Core.Path.{sym, ◌∙◌}
-use Rattle.decimal.proofs.Finding.{find_here, find_further, find_end}
+use Rattle.decimal.proofs.Finding.{find_here, find_further, find_none}
 use Rattle.decimal.proofs.find.Goals as goal
 
 pub returns-then-s-i : goal.returns-then-s-i
@@ -10,4 +10,4 @@ pub loop-i-preserved : goal.loop-i-preserved
 loop-i-preserved c = c.loop-i.invariant ∙ find_further c.args.s.now c.args.stop c.loop-i.i c.loop-i-test.true c.if-s-i.false
 
 pub returns : goal.returns
-returns c = find_end c.args.s.now c.args.stop c.loop-i.i c.loop-i-test.false ∙ sym c.loop-i.invariant
+returns c = c.max.ensures ∙ find_none c.args.s.now c.args.stop c.loop-i.i c.args.at c.loop-i-test.false c.loop-i.auto.i-end c.loop-i.invariant

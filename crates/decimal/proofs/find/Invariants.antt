@@ -1,12 +1,7 @@
 -- `find`: from each index reached on, the first such byte is the same one.
-use Prim.Native.Nat.{◌-◌}
 use mathlib.Core.Path.{◌≡◌}
-use lib.ListN.{length}
 use Rattle.decimal.specs.UpTo.{find_at}
 use Rattle.decimal.proofs.find.Given as goal
 
 abbrev pub invariant-loop-i : goal.invariant-loop-i
 invariant-loop-i l = find_at l.s l.at l.stop ≡ find_at l.s l.i l.stop
-
-abbrev pub decreases-loop-i : goal.decreases-loop-i
-decreases-loop-i l = length l.s - l.i

@@ -1,12 +1,13 @@
 -- `leads`: by the length.
+use native.Mathlib.Omega.{arith}
 use Rattle.decimal.proofs.Scanning.{leads_none, leads_one, leads_many}
 use Rattle.decimal.proofs.leads.Goals as goal
 
-pub returns-then-s-eq0 : goal.returns-then-s-eq0
-returns-then-s-eq0 c = leads_none c.args.s.now c.if-s-eq0.true
+pub returns-in-empty : goal.returns-in-empty
+returns-in-empty c = leads_none c.args.s.now (omega arith)
 
-pub returns-then-s-eq1 : goal.returns-then-s-eq1
-returns-then-s-eq1 c = leads_one c.args.s.now c.if-s-eq1.true
+pub returns-in-len1 : goal.returns-in-len1
+returns-in-len1 c = leads_one c.args.s.now (omega arith)
 
-pub returns : goal.returns
-returns c = leads_many c.args.s.now c.if-s-eq0.false c.if-s-eq1.false
+pub returns-in-len1-up : goal.returns-in-len1-up
+returns-in-len1-up c = leads_many c.args.s.now (omega arith)

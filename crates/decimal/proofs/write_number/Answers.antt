@@ -1,19 +1,13 @@
 -- `write_number`: the digits of what is left are still to stand in front of what is written.
 use native.Mathlib.Omega.{arith}
-use Rattle.decimal.proofs.Spelling.{spells_none, spells_at, spells_more, spells_last}
+use Rattle.decimal.proofs.Spelling.{spells_none, spells_more, spells_last}
 use Rattle.decimal.proofs.write_number.Goals as goal
 
 pub loop-rest-init : goal.loop-rest-init
 loop-rest-init c = spells_none c.args.n (omega arith)
 
-pub bounds-bytes-i : goal.bounds-bytes-i
-bounds-bytes-i c = spells_at _ _ _ _ c.loop-rest.invariant
-
 pub loop-rest-preserved : goal.loop-rest-preserved
 loop-rest-preserved c = spells_more _ _ _ _ c.loop-rest.invariant _ c.glyph.ensures c.loop-rest-test.true
-
-pub bounds-bytes-i-2 : goal.bounds-bytes-i-2
-bounds-bytes-i-2 c = spells_at _ _ _ _ c.loop-rest.invariant
 
 pub returns : goal.returns
 returns c = spells_last _ _ _ _ c.loop-rest.invariant _ c.glyph-2.ensures c.loop-rest-test.false

@@ -1,7 +1,7 @@
 -- `write_refused`: the line by its definition.
-use Rattle.listing.specs.Text.{refused_text}
+use Rattle.listing.specs.Text.{column, refused_text}
 use Rattle.listing.proofs.write_refused.Goals as goal
 
 pub returns : goal.returns
-unfolding refused_text
-returns c = c.write_line.ensures
+unfolding column refused_text
+returns c = rw c.from.ensures at c.write_line.ensures

@@ -11,7 +11,7 @@ pub put_row-end-requires : goal.put_row-end-requires
 put_row-end-requires c = omega (arith, c.loop-i.invariant.small, c.loop-i.invariant.within, c.requires)
 
 pub loop-i-preserved : goal.loop-i-preserved
-loop-i-preserved c = lists_less (row_at c.args.f c.args.offsets.now c.args.sizes.now c.args.order.now) c.args.out.now c.args.at c.args.count _ _ _ c.loop-i.invariant _ c.loop-i-test.true c.row_at-r.ensures c.put_row-end.ensures
+loop-i-preserved c = lists_less (row_at c.args.f c.args.offsets.now c.args.sizes.now c.args.order.now) c.args.out.now c.args.at c.args.count _ _ _ c.loop-i.invariant _ c.loop-i-test.true c.row_at.ensures c.put_row-end.ensures
 
 pub shape_of-out : goal.shape_of-out
 shape_of-out c = c.loop-i.invariant.leaves.filling.size

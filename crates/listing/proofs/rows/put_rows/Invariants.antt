@@ -1,11 +1,7 @@
 -- `put_rows`: the lines from section i on are still to be put.
-use Prim.Native.Nat.{◌-◌}
 use Rattle.listing.specs.Listed.{row_at}
 use Rattle.listing.proofs.Walks.{Lists}
 use Rattle.listing.proofs.rows.put_rows.Given as goal
 
 abbrev pub invariant-loop-i : goal.invariant-loop-i
 invariant-loop-i l = Lists (row_at l.f l.offsets l.sizes l.order) l.initial.out l.at l.count l.out l.end l.i
-
-abbrev pub decreases-loop-i : goal.decreases-loop-i
-decreases-loop-i l = l.count - l.i

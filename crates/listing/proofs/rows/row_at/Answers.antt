@@ -1,6 +1,10 @@
--- `row_at`: one law over the answers of its calls.
-use Rattle.listing.proofs.Showing.{row_is}
+-- `row_at`: the kind is told whole by its numbers.
+use Rattle.listing.specs.Listed.{row_at}
+use Rattle.listing.proofs.Showing.{kind_is}
 use Rattle.listing.proofs.rows.row_at.Goals as goal
 
 pub returns : goal.returns
-returns c = row_is c.args.f c.args.offsets.now c.args.sizes.now c.args.order.now c.args.i c.kind_of-answer.result _ _ _ _ _ c.kind_of-answer.ensures c.kind_numbers-k.ensures c.rect_of-rect.ensures c.word-sent.ensures c.long_word-offset.ensures c.word-size.ensures
+unfolding row_at
+returns c =
+    let kind = kind_is c.args.f c.args.i c.kind_of-kind.result c.kind_of-kind.ensures in
+    rw (c.rect_of.ensures, kind, c.word.ensures, c.word-2.ensures, c.word-3.ensures)

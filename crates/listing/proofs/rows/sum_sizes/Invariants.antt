@@ -1,10 +1,6 @@
 -- `sum_sizes`: the sum of the sizes so far.
-use Prim.Native.Nat.{◌-◌}
 use Rattle.listing.proofs.Showing.{Sums}
 use Rattle.listing.proofs.rows.sum_sizes.Given as goal
 
 abbrev pub invariant-loop-i : goal.invariant-loop-i
 invariant-loop-i l = Sums l.sizes l.count l.total l.i
-
-abbrev pub decreases-loop-i : goal.decreases-loop-i
-decreases-loop-i l = l.count - l.i
