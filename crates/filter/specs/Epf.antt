@@ -120,3 +120,4 @@ epf on modular =
     bind (float (live && modular) 15360 λ r. pattern r.params.sigma_for_modular) λ m.
     ends (epf_of iters (settings lut scales four m))
 
+

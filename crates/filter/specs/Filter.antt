@@ -27,3 +27,4 @@ filter_default = record { gab = gabor_default; epf = epf_default }
 unfoldable pub filter_disabled : RestorationFilter
 filter_disabled = record { gab = gabor_disabled; epf = epf_disabled }
 
+

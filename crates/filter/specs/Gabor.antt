@@ -50,3 +50,4 @@ gabor on =
     bind (channel (eqb own 1) 2) λ z.
     ends (gabor_of enabled own x y z)
 
+
