@@ -2,6 +2,7 @@
 use Rattle.std.specs.Prelude.{ℕ, ◌+◌, ◌*◌, ◌%◌, Bool, cond, List, [], ◌∷◌, Float}
 use Rattle.std.specs.Float.{binary32}
 use Rattle.std.specs.Float.Ieee.{eq, to_bits}
+use Rattle.replay.specs.declared.sums.Tally.{Tally}
 
 -- one more number, by the big sum or the small one
 abbrev pub mixed : Bool → ℕ → ℕ → ℕ
@@ -16,5 +17,6 @@ unfoldable pub summed_by : {A : Type 0} → (A → ℕ) → Bool → ℕ → Lis
 summed_by f big sum [] = sum
 summed_by f big sum (x ∷ xs) = summed_by f big (mixed big sum (f x)) xs
 
-abbrev pub summed : Bool → ℕ → List ℕ → ℕ
-summed = summed_by (λ n. n)
+-- a sum in the making behind some things
+abbrev pub tallied : {A : Type 0} → (A → ℕ) → Tally → List A → Tally
+tallied f t xs = record t { sum = summed_by f t.big t.sum xs }

@@ -1,7 +1,6 @@
 -- The numbers of a stored vector: 32 bits each, low byte first; bytes past the end count as 0.
 use Rattle.std.specs.Prelude.{ℕ, zero, suc, ◌+◌, ◌*◌, ◌-◌, List, [], ◌∷◌, get_or, ℤ, pos, negsuc}
 use Rattle.grid.specs.declared.Frame.{Frame}
-use Rattle.replay.specs.declared.words.Numbers.{Numbers}
 
 unfoldable pub word_at : List ℕ → ℕ → ℕ
 word_at s at = get_or s at 0 + get_or s (at + 1) 0 * 256 + get_or s (at + 2) 0 * 65536 + get_or s (at + 3) 0 * 16777216
@@ -10,9 +9,11 @@ word_at s at = get_or s at 0 + get_or s (at + 1) 0 * 256 + get_or s (at + 2) 0 *
 abbrev pub long_at : List ℕ → ℕ → ℕ
 long_at s at = word_at s at + word_at s (at + 4) * 4294967296
 
-unfoldable pub four_at : List ℕ → ℕ → Numbers
-four_at s at = record { a = word_at s at; b = word_at s (at + 4); c = word_at s (at + 8); d = word_at s (at + 12) }
+-- four numbers, one after the other
+unfoldable pub four_at : List ℕ → ℕ → List ℕ
+four_at s at = word_at s at ∷ word_at s (at + 4) ∷ word_at s (at + 8) ∷ word_at s (at + 12) ∷ []
 
+-- a frame's six numbers
 unfoldable pub frame_at : List ℕ → ℕ → Frame
 frame_at s at = record {
   width = word_at s at;

@@ -6,7 +6,7 @@ mod sums;
 mod tables;
 mod words;
 
-pub use lines::{Output, buffered, cells, end, refusal, show};
-pub use sums::{pattern, sum_bytes, sum_floats, sum_longs, sum_words};
-pub use tables::{bytes, longs, put_words, reversed, room_bytes, room_longs, room_words, table};
-pub use words::{Numbers, four, frame, long, size, word};
+pub use lines::{Output, buffered};
+pub use sums::{Summand, Tally, pattern};
+pub use tables::{BYTES, WORDS, put_words, reversed, room, table};
+pub use words::{four, frame, long, size, word};

@@ -6,7 +6,7 @@ ghost use Rattle.std.specs.Io.Buffered.{writer_buffer, writer_inner};
 ghost use Rattle.std.specs.IoError.{error_kind};
 ghost use Rattle.replay.specs.Outputs.{shown, shown_by, Gains};
 
-use crate::sums::wide;
+use crate::sums::Summand;
 use bits::Refusal;
 use std::alloc::Global;
 use std::io;
@@ -51,6 +51,39 @@ impl<W: Write> Output<W> {
         }
     }
 
+    // A number and a tab.
+    pub fn show(&mut self, n: u64)
+        ensures { Gains W.contents self.old (shown n) self.new }
+    {
+        self.decimal(n);
+        self.text(b"\t");
+    }
+
+    // Each of some numbers and a tab.
+    #[tactic(auto, using(crate::proofs::Gaining::gains_more))]
+    pub fn cells<T: Summand>(&mut self, xs: &[T])
+        ensures { Gains W.contents self.old (shown_by T.number_of true xs.now) self.new }
+    {
+        for x in xs {
+            self.show(x.number());
+        }
+    }
+
+    // A refusal's number and its place.
+    pub fn refusal(&mut self, r: Refusal)
+        ensures { Gains W.contents self.old (shown r.number ++ shown r.place) self.new }
+    {
+        self.show(u64::from(r.number));
+        self.show(r.place);
+    }
+
+    // The end of a line.
+    pub fn end(&mut self)
+        ensures { Gains W.contents self.old (10 ∷ []) self.new }
+    {
+        self.text(b"\n");
+    }
+
     // The first error; where there is none, what the buffer holds is written out.
     pub fn finish(mut self) -> io::Result<()>
     where
@@ -61,38 +94,4 @@ impl<W: Write> Output<W> {
         self.failed?;
         self.to.flush()
     }
-}
-
-// A number and a tab.
-pub fn show<W: Write>(out: &mut Output<W>, n: u64)
-    ensures { Gains W.contents out.old (shown n) out.new }
-{
-    out.decimal(n);
-    out.text(b"\t");
-}
-
-// Each of some numbers and a tab.
-pub fn cells<W: Write>(out: &mut Output<W>, xs: &[u32])
-    ensures { Gains W.contents out.old (shown_by (λ n. n) true xs.now) out.new }
-{
-    let mut i: usize = 0;
-    while i < xs.len() {
-        show(out, wide(xs[i]));
-        i += 1;
-    }
-}
-
-// A refusal's number and its place.
-pub fn refusal<W: Write>(out: &mut Output<W>, r: Refusal)
-    ensures { Gains W.contents out.old (shown r.number ++ shown r.place) out.new }
-{
-    show(out, r.number as u64);
-    show(out, r.place);
-}
-
-// The end of a line.
-pub fn end<W: Write>(out: &mut Output<W>)
-    ensures { Gains W.contents out.old (10 ∷ []) out.new }
-{
-    out.text(b"\n");
 }

@@ -1,100 +1,99 @@
 // All numbers of a table in one, so that a table of 65,536 takes a cell. There are two such sums: the big one takes numbers of 32 bits as they
 // are and leaves a number of 52 bits.
-ghost use Rattle.std.specs.Prelude.{◌≡◌, [], if◌then◌else◌};
-ghost use Rattle.replay.specs.Outputs.{shown, shown_by, Gains};
-ghost use Rattle.replay.specs.Sums.{mixed, summed, summed_by, pattern};
+ghost use Rattle.std.specs.Prelude.{◌≡◌, ℕ};
+ghost use Rattle.replay.specs.Outputs.{shown_by, Gains};
+ghost use Rattle.replay.specs.Sums.{mixed, pattern, tallied};
 
-use crate::lines::{Output, show};
+use crate::lines::Output;
 use std::io::Write;
+
+// What counts as a number.
+pub trait Summand: Copy {
+    ghost number_of: { Self → ℕ };
+
+    fn number(self) -> u64
+        ensures { result ≡ number_of self };
+}
+
+impl Summand for u8 {
+    ghost number_of = { λ byte. byte };
+
+    fn number(self) -> u64 {
+        u64::from(self)
+    }
+}
+
+impl Summand for u32 {
+    ghost number_of = { λ word. word };
+
+    fn number(self) -> u64 {
+        u64::from(self)
+    }
+}
+
+impl Summand for u64 {
+    ghost number_of = { λ long. long };
+
+    fn number(self) -> u64 {
+        self
+    }
+}
+
+// A value counts by its bits.
+impl Summand for f32 {
+    ghost number_of = { pattern };
+
+    fn number(self) -> u64 {
+        u64::from(pattern(self))
+    }
+}
+
+// The bits of a value; 0 for what is no number.
+#[tactic(auto, using(crate::proofs::Floats::eq_self))]
+pub fn pattern(x: f32) -> u32
+    ensures { result ≡ pattern x }
+{
+    if x.is_nan() { 0 } else { x.to_bits() }
+}
 
 // One more number into a sum.
 fn mix(big: bool, sum: u64, n: u64) -> u64
     ensures { result ≡ mixed big sum n }
 {
     if big {
-        return (sum % 4294967291) * 1000003 + n % 4294967291;
+        (sum % 4294967291) * 1000003 + n % 4294967291
+    } else {
+        (sum % 1000003) * 31 + n % 281474976710656
     }
-    (sum % 1000003) * 31 + n % 281474976710656
 }
 
-// The same, and the number is shown where all are.
-fn step<W: Write>(out: &mut Output<W>, big: bool, full: bool, sum: u64, n: u64) -> u64
-    ensures value { result ≡ mixed big sum n }
-    ensures output { Gains W.contents out.old (if full then shown n else []) out.new }
-{
-    if full {
-        show(out, n);
+// A sum in the making: whether it is the big one, whether each number is shown too, and what it has come to.
+#[derive(Clone, Copy)]
+pub struct Tally {
+    pub big: bool,
+    pub full: bool,
+    pub sum: u64,
+}
+
+impl Tally {
+    // The numbers of some things, one after the other.
+    #[tactic(auto, using(crate::proofs::Walks::summed_more, crate::proofs::Walks::summed_last))]
+    pub fn add<T: Summand>(&mut self, xs: &[T])
+        ensures { self.new ≡ tallied T.number_of self.old xs.now }
+    {
+        for x in xs {
+            self.sum = mix(self.big, self.sum, x.number());
+        }
     }
-    mix(big, sum, n)
-}
 
-fn wide_byte(x: u8) -> u64
-    ensures { result ≡ x }
-{
-    x as u64
-}
-
-pub fn wide(x: u32) -> u64
-    ensures { result ≡ x }
-{
-    x as u64
-}
-
-pub fn sum_bytes(big: bool, sum: u64, xs: &[u8]) -> u64
-    ensures { result ≡ summed big sum xs.now }
-{
-    let mut all = sum;
-    let mut i: usize = 0;
-    while i < xs.len() {
-        all = mix(big, all, wide_byte(xs[i]));
-        i += 1;
+    // The same, and each number is shown where all are.
+    pub fn add_shown<W: Write, T: Summand>(&mut self, out: &mut Output<W>, xs: &[T])
+        ensures value { self.new ≡ tallied T.number_of self.old xs.now }
+        ensures output { Gains W.contents out.old (shown_by T.number_of self.old.full xs.now) out.new }
+    {
+        if self.full {
+            out.cells(xs);
+        }
+        self.add(xs);
     }
-    all
-}
-
-pub fn sum_words<W: Write>(out: &mut Output<W>, big: bool, full: bool, sum: u64, xs: &[u32]) -> u64
-    ensures value { result ≡ summed big sum xs.now }
-    ensures output { Gains W.contents out.old (shown_by (λ n. n) full xs.now) out.new }
-{
-    let mut all = sum;
-    let mut i: usize = 0;
-    while i < xs.len() {
-        all = step(out, big, full, all, wide(xs[i]));
-        i += 1;
-    }
-    all
-}
-
-pub fn sum_longs<W: Write>(out: &mut Output<W>, big: bool, full: bool, sum: u64, xs: &[u64]) -> u64
-    ensures value { result ≡ summed big sum xs.now }
-    ensures output { Gains W.contents out.old (shown_by (λ n. n) full xs.now) out.new }
-{
-    let mut all = sum;
-    let mut i: usize = 0;
-    while i < xs.len() {
-        all = step(out, big, full, all, xs[i]);
-        i += 1;
-    }
-    all
-}
-
-// The bits of a value; 0 for what is no number.
-pub fn pattern(x: f32) -> u32
-    ensures { result ≡ pattern x }
-{
-    if x == x { f32::to_bits(x) } else { 0 }
-}
-
-// Each value by its bits.
-pub fn sum_floats<W: Write>(out: &mut Output<W>, big: bool, full: bool, sum: u64, xs: &[f32]) -> u64
-    ensures value { result ≡ summed_by pattern big sum xs.now }
-    ensures output { Gains W.contents out.old (shown_by pattern full xs.now) out.new }
-{
-    let mut all = sum;
-    let mut i: usize = 0;
-    while i < xs.len() {
-        all = step(out, big, full, all, wide(pattern(xs[i])));
-        i += 1;
-    }
-    all
 }

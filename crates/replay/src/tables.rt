@@ -6,67 +6,43 @@ ghost use Rattle.replay.specs.Words.{words_at, down};
 
 use crate::words::number;
 
-// A table with room for four words more than there can be sections, the same of 64-bit words, and bytes of a table of contents as long.
-pub fn table(word: u32) -> [u32; 65540]
-    ensures { result ≡ replicate 65540 word }
-{
-    [word; 65540]
-}
+// How long a table is: of numbers, room for four more than there can be sections; of bytes, a table of contents as long.
+pub const WORDS: usize = 65540;
 
-pub fn longs(long: u64) -> [u64; 65540]
-    ensures { result ≡ replicate 65540 long }
-{
-    [long; 65540]
-}
+pub const BYTES: usize = 270000;
 
-pub fn bytes(byte: u8) -> [u8; 270000]
-    ensures { result ≡ replicate 270000 byte }
+// A table of one value.
+pub fn table<T: Copy, const N: usize>(value: T) -> [T; N]
+    ensures { result ≡ replicate N value }
 {
-    [byte; 270000]
+    [value; N]
 }
 
 // How much is lent of a slice: as much as is asked for, as far as it goes.
-pub fn room_bytes(bytes: &[u8], n: u32) -> usize
-    ensures value { result ≡ min n (length bytes.now) }
-    ensures in_bounds { IsPrefixLen result bytes.now }
+pub fn room<T>(xs: &[T], n: u32) -> usize
+    ensures value { result ≡ min n (length xs.now) }
+    ensures in_bounds { IsPrefixLen result xs.now }
 {
-    fill::least(n as usize, bytes.len())
-}
-
-pub fn room_words(words: &[u32], n: u32) -> usize
-    ensures value { result ≡ min n (length words.now) }
-    ensures in_bounds { IsPrefixLen result words.now }
-{
-    fill::least(n as usize, words.len())
-}
-
-pub fn room_longs(longs: &[u64], n: u32) -> usize
-    ensures value { result ≡ min n (length longs.now) }
-    ensures in_bounds { IsPrefixLen result longs.now }
-{
-    fill::least(n as usize, longs.len())
+    xs.len().min(n as usize)
 }
 
 // The numbers of a record from an index on.
+#[tactic(auto, using(crate::proofs::Walks::placing_all))]
 pub fn put_words(out: &mut [u32], s: &[u8], at: u32, n: u32)
     ensures { out.new ≡ sets out.old 0 (words_at s.now at n) }
 {
     let start = at as usize;
-    let end = n as usize;
-    let mut i: usize = 0;
-    while i < end {
+    for i in 0..n as usize {
         fill::put_u32(out, i, number(s, start + 4 * i));
-        i += 1;
     }
 }
 
 // n - 1, n - 2, .., 0
+#[tactic(auto, using(crate::proofs::Walks::placing_more, crate::proofs::Walks::placing_all))]
 pub fn reversed(out: &mut [u32], n: u32)
     ensures { out.new ≡ sets out.old 0 (down n) }
 {
-    let mut i: u32 = 0;
-    while i < n {
+    for i in 0..n {
         fill::put_u32(out, i as usize, n - 1 - i);
-        i += 1;
     }
 }

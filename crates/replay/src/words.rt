@@ -4,38 +4,20 @@ ghost use Rattle.replay.specs.Words.{word_at, long_at, four_at, frame_at, sized}
 
 use grid::Frame;
 
-// Four numbers that stand one after the other.
-#[derive(Clone, Copy)]
-pub struct Numbers {
-    pub a: u32,
-    pub b: u32,
-    pub c: u32,
-    pub d: u32,
-}
-
-fn wide(x: u8) -> u32
-    ensures { result ≡ x }
-{
-    x as u32
-}
-
 // The byte at an index, 0 past the end.
 fn byte(s: &[u8], i: usize) -> u8
     ensures { result ≡ get_or s.now i 0 }
 {
-    if i < s.len() { s[i] } else { 0 }
+    s.get(i).copied().unwrap_or(0)
 }
 
 // The number that begins at an index.
+#[tactic(auto, unfolding(crate::specs::Words::word_at))]
 pub fn number(s: &[u8], i: usize) -> u32
     requires { i < 1099511627776 }
     ensures { result ≡ word_at s.now i }
 {
-    let a = byte(s, i);
-    let b = byte(s, i + 1);
-    let c = byte(s, i + 2);
-    let d = byte(s, i + 3);
-    wide(a) + wide(b) * 256 + wide(c) * 65536 + wide(d) * 16777216
+    u32::from_le_bytes([byte(s, i), byte(s, i + 1), byte(s, i + 2), byte(s, i + 3)])
 }
 
 pub fn word(s: &[u8], at: u32) -> u32
@@ -51,23 +33,25 @@ pub fn long(s: &[u8], at: u32) -> u64
     let i = at as usize;
     let low = number(s, i);
     let high = number(s, i + 4);
-    (low as u64) + (high as u64) * 4294967296
+    u64::from(low) + u64::from(high) * 4294967296
 }
 
 // Four numbers from an index on.
-pub fn four(s: &[u8], at: u32) -> Numbers
+#[tactic(auto, unfolding(crate::specs::Words::four_at))]
+pub fn four(s: &[u8], at: u32) -> [u32; 4]
     ensures { result ≡ four_at s.now at }
 {
     let i = at as usize;
-    Numbers {
-        a: number(s, i),
-        b: number(s, i + 4),
-        c: number(s, i + 8),
-        d: number(s, i + 12),
-    }
+    [
+        number(s, i),
+        number(s, i + 4),
+        number(s, i + 8),
+        number(s, i + 12),
+    ]
 }
 
 // A frame's six numbers.
+#[tactic(auto, unfolding(crate::specs::Words::frame_at))]
 pub fn frame(s: &[u8], at: u32) -> Frame
     ensures { result ≡ frame_at s.now at }
 {

@@ -1,14 +1,6 @@
--- `put_words`: what is left of the walk is what is left to put.
-use Rattle.std.proofs.Common.{◌+◌, ◌*◌}
-use Rattle.replay.specs.Words.{word_at}
-use Rattle.replay.proofs.Walks.{placing_none, placing_more, placing_all}
+-- `put_words`: a number a turn.
+use Rattle.replay.proofs.Walks.{placing_more}
 use Rattle.replay.proofs.tables.put_words.Goals as goal
 
-pub loop-i-init : goal.loop-i-init
-loop-i-init c = placing_none (λ j. word_at c.args.s.now (c.args.at + 4 * j)) c.args.n
-
 pub loop-i-preserved : goal.loop-i-preserved
-loop-i-preserved c = placing_more _ _ c.loop-i.invariant c.loop-i-test.true _ c.number.ensures _ c.put_u32.ensures
-
-pub returns : goal.returns
-returns c = placing_all _ _ c.loop-i.invariant c.loop-i-test.false
+loop-i-preserved c = placing_more _ _ _ _ c.loop-i-test.true c.loop-i.invariant c.put_u32.ensures c.number.ensures

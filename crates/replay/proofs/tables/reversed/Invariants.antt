@@ -5,6 +5,3 @@ use Rattle.replay.proofs.tables.reversed.Given as goal
 
 abbrev pub invariant-loop-i : goal.invariant-loop-i
 invariant-loop-i l = Placing (λ j. l.n - 1 - j) l.n l.initial.out l.out l.i
-
-abbrev pub decreases-loop-i : goal.decreases-loop-i
-decreases-loop-i l = l.n - l.i
