@@ -19,34 +19,31 @@ fn main(rt: HostRuntime) -> io::Result<()> {
     out.finish()
 }
 
-fn record(out: &mut Output, r: &[u8]) {
-    if r.len() < 128 {
-        return;
-    }
-    let q = replay::four(r, 0);
+fn record(out: &mut Output, r: &[u8; 128]) {
+    let [kind, on, at, fault] = replay::four(r, 0);
     let c = Cursor {
-        at: q.c as u64,
-        fault: bits::refused(q.d, 7),
+        at: u64::from(at),
+        fault: bits::refused(fault, 7),
     };
     let end = 64 + (replay::word(r, 56) % 65) as usize;
-    run(out, r, q.a, q.b == 1, &r[64..end], c);
+    run(out, r, kind, on == 1, &r[64..end], c);
 }
 
 fn run(out: &mut Output, r: &[u8], kind: u32, on: bool, s: &[u8], c: Cursor) {
-    let q = replay::four(r, 16);
+    let [a, b, ..] = replay::four(r, 16);
     match kind {
-        0 => field(out, bits::read_bits_if(s, c, on, q.a, q.b)),
-        1 => field(out, bits::read_bool_if(s, c, on, q.b)),
-        2 => field(out, numbers::read_u32_if(s, c, on, choices(r), q.b)),
-        3 => field(out, numbers::read_enum_if(s, c, on, choices(r), q.a, q.b)),
+        0 => field(out, bits::read_bits_if(s, c, on, a, b)),
+        1 => field(out, bits::read_bool_if(s, c, on, b)),
+        2 => field(out, numbers::read_u32_if(s, c, on, choices(r), b)),
+        3 => field(out, numbers::read_enum_if(s, c, on, choices(r), a, b)),
         4 => {
             let w = numbers::read_u64_if(s, c, on, replay::long(r, 24));
-            replay::show(out, w.value);
+            out.show(w.value);
             cursor(out, w.next);
         }
-        5 => signed(out, numbers::unpack_signed(q.a)),
-        6 => field(out, numbers::read_f16_if(s, c, on, q.b)),
-        7 => last(out, replay::pattern(numbers::f16_to_f32(q.a)) as u64),
+        5 => signed(out, numbers::unpack_signed(a)),
+        6 => field(out, numbers::read_f16_if(s, c, on, b)),
+        7 => last(out, u64::from(replay::pattern(numbers::f16_to_f32(a)))),
         8 => cursor(out, bits::zero_pad_to_byte(s, c)),
         9 => cursor(
             out,
@@ -65,36 +62,36 @@ fn run(out: &mut Output, r: &[u8], kind: u32, on: bool, s: &[u8], c: Cursor) {
 }
 
 fn choices(r: &[u8]) -> Choices {
-    let p = replay::four(r, 24);
-    let q = replay::four(r, 40);
+    let [base0, bits0, base1, bits1] = replay::four(r, 24);
+    let [base2, bits2, base3, bits3] = replay::four(r, 40);
     Choices {
         d0: Choice {
-            base: p.a,
-            bits: p.b,
+            base: base0,
+            bits: bits0,
         },
         d1: Choice {
-            base: p.c,
-            bits: p.d,
+            base: base1,
+            bits: bits1,
         },
         d2: Choice {
-            base: q.a,
-            bits: q.b,
+            base: base2,
+            bits: bits2,
         },
         d3: Choice {
-            base: q.c,
-            bits: q.d,
+            base: base3,
+            bits: bits3,
         },
     }
 }
 
 fn field(out: &mut Output, f: Field) {
-    replay::show(out, f.value as u64);
+    out.show(u64::from(f.value));
     cursor(out, f.next);
 }
 
 fn cursor(out: &mut Output, c: Cursor) {
-    replay::show(out, c.at);
-    replay::show(out, c.fault.number as u64);
+    out.show(c.at);
+    out.show(u64::from(c.fault.number));
     last(out, c.fault.place);
 }
 
@@ -103,11 +100,11 @@ fn signed(out: &mut Output, z: i32) {
     if z < 0 {
         out.text(b"~");
     }
-    last(out, replay::size(z) as u64);
+    last(out, u64::from(replay::size(z)));
 }
 
 // The last number of a line.
 fn last(out: &mut Output, n: u64) {
     out.decimal(n);
-    replay::end(out);
+    out.end();
 }

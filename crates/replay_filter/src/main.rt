@@ -4,8 +4,7 @@
 // A line: the fault, its place, the cursor's place, the 25 values where nothing was refused, and all of them in one number.
 #![tactic(auto)]
 
-use filter::{EpfParams, Gabor};
-use replay::{Numbers, Output};
+use replay::{Output, Tally};
 use std::io;
 
 fn main(rt: HostRuntime) -> io::Result<()> {
@@ -21,51 +20,26 @@ fn main(rt: HostRuntime) -> io::Result<()> {
     out.finish()
 }
 
-fn record(out: &mut Output, r: &[u8]) {
-    if r.len() < 96 {
-        return;
-    }
-    let q = replay::four(r, 0);
-    let end = 16 + (q.c % 81) as usize;
-    let n = if q.a < 4 {
-        bundle(out, &r[16..end], q)
-    } else {
-        filter::is_unbalanced(q.b, q.c) as u64
+fn record(out: &mut Output, r: &[u8; 96]) {
+    let [what, one, two, fault] = replay::four(r, 0);
+    let end = 16 + (two % 81) as usize;
+    let n = match what {
+        0..=3 => bundle(out, &r[16..end], what, u64::from(one), fault),
+        _ => u64::from(filter::is_unbalanced(one, two)),
     };
     out.decimal(n);
-    replay::end(out);
+    out.end();
 }
 
-fn bundle(out: &mut Output, s: &[u8], q: Numbers) -> u64 {
-    let place = q.b as u64;
-    let c = bits::refuse_if(bits::begin(place), q.d != 0, q.d, place);
-    let f = filter::read_restoration_filter_if(s, c, q.a % 2 == 1, 1 < q.a);
-    let fault = f.next.fault;
-    replay::refusal(out, fault);
-    replay::show(out, f.next.at);
-    let v = f.value;
-    let epf = v.epf;
-    values(
-        out,
-        fault.number == 0,
-        v.gab,
-        epf.enabled(),
-        epf.iters,
-        epf.params,
-    )
-}
-
-fn values(
-    out: &mut Output,
-    full: bool,
-    gab: Gabor,
-    enabled: bool,
-    iters: u32,
-    p: EpfParams,
-) -> u64 {
-    let weights = gab.weights;
-    let lut = p.sharp_lut;
-    let scale = p.channel_scale;
+fn bundle(out: &mut Output, s: &[u8], what: u32, place: u64, fault: u32) -> u64 {
+    let c = bits::refuse_if(bits::begin(place), fault != 0, fault, place);
+    let f = filter::read_restoration_filter_if(s, c, what % 2 == 1, 1 < what);
+    let refusal = f.next.fault;
+    out.refusal(refusal);
+    out.show(f.next.at);
+    let gab = f.value.gab;
+    let epf = f.value.epf;
+    let p = epf.params;
     let last = [
         p.quant_mul,
         p.pass0_sigma_scale,
@@ -73,10 +47,16 @@ fn values(
         p.border_sad_mul,
         p.sigma_for_modular,
     ];
-    let a = replay::sum_words(out, false, full, 0, &[gab.enabled() as u32]);
-    let b = replay::sum_floats(out, false, full, a, &weights);
-    let c = replay::sum_words(out, false, full, b, &[enabled as u32, iters]);
-    let d = replay::sum_floats(out, false, full, c, &lut);
-    let e = replay::sum_floats(out, false, full, d, &scale);
-    replay::sum_floats(out, false, full, e, &last)
+    let mut all = Tally {
+        big: false,
+        full: refusal.number == 0,
+        sum: 0,
+    };
+    all.add_shown(out, &[u32::from(gab.enabled())]);
+    all.add_shown(out, &gab.weights);
+    all.add_shown(out, &[u32::from(epf.enabled()), epf.iters]);
+    all.add_shown(out, &p.sharp_lut);
+    all.add_shown(out, &p.channel_scale);
+    all.add_shown(out, &last);
+    all.sum
 }

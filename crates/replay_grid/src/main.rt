@@ -21,93 +21,92 @@ fn main(rt: HostRuntime) -> io::Result<()> {
 
 fn line(out: &mut Output, r: &[u8]) {
     let f = replay::frame(r, 0);
-    let q = replay::four(r, 24);
+    let [by, n, x, y] = replay::four(r, 24);
     let one = rect(r, 40);
     measured(out, f);
-    counts(out, f, q.a);
+    counts(out, f, by);
     group(
         out,
-        grid::group_rect(f, q.b),
-        grid::group_size_for(f, q.b),
-        grid::is_group_collides_region(f, q.b, one),
+        grid::group_rect(f, n),
+        grid::group_size_for(f, n),
+        grid::is_group_collides_region(f, n, one),
     );
     group(
         out,
-        grid::lf_group_rect(f, q.b),
-        grid::lf_group_size_for(f, q.b),
-        grid::is_lf_group_collides_region(f, q.b, one),
+        grid::lf_group_rect(f, n),
+        grid::lf_group_size_for(f, n),
+        grid::is_lf_group_collides_region(f, n, one),
     );
-    number(out, grid::lf_group_idx_from_group_idx(f, q.b));
-    number(out, grid::group_idx_from_coord(f, q.c, q.d));
-    out.decimal(grid::is_aabb_collides(one, rect(r, 56)) as u64);
-    replay::end(out);
+    number(out, grid::lf_group_idx_from_group_idx(f, n));
+    number(out, grid::group_idx_from_coord(f, x, y));
+    out.decimal(u64::from(grid::is_aabb_collides(one, rect(r, 56))));
+    out.end();
 }
 
 fn rect(r: &[u8], at: u32) -> Rect {
-    let q = replay::four(r, at);
+    let [left, top, width, height] = replay::four(r, at);
     Rect {
-        left: q.a,
-        top: q.b,
-        width: q.c,
-        height: q.d,
+        left,
+        top,
+        width,
+        height,
     }
 }
 
 fn number(out: &mut Output, n: Number) {
-    replay::cells(out, &[n.value, n.refusal.number]);
+    out.cells(&[n.value, n.refusal.number]);
 }
 
 fn measured(out: &mut Output, f: Frame) {
     let g = grid::measure(f);
-    replay::cells(
-        out,
-        &[
-            g.width,
-            g.height,
-            g.side,
-            g.lf_side,
-            g.columns,
-            g.rows,
-            g.lf_columns,
-            g.lf_rows,
-            g.groups,
-            g.lf_groups,
-            g.sections,
-            g.refusal.number,
-        ],
-    );
-    replay::show(out, g.refusal.place);
+    out.cells(&[
+        g.width,
+        g.height,
+        g.side,
+        g.lf_side,
+        g.columns,
+        g.rows,
+        g.lf_columns,
+        g.lf_rows,
+        g.groups,
+        g.lf_groups,
+        g.sections,
+        g.refusal.number,
+    ]);
+    out.show(g.refusal.place);
 }
 
 fn counts(out: &mut Output, f: Frame, upsampling: u32) {
-    number(out, grid::sample_width(f, upsampling));
-    number(out, grid::sample_height(f, upsampling));
-    number(out, grid::color_sample_width(f));
-    number(out, grid::color_sample_height(f));
-    number(out, grid::group_dim(f));
-    number(out, grid::lf_group_dim(f));
-    number(out, grid::groups_per_row(f));
-    number(out, grid::lf_groups_per_row(f));
-    number(out, grid::num_groups(f));
-    number(out, grid::num_lf_groups(f));
-    number(out, grid::section_count(f));
+    let all = [
+        grid::sample_width(f, upsampling),
+        grid::sample_height(f, upsampling),
+        grid::color_sample_width(f),
+        grid::color_sample_height(f),
+        grid::group_dim(f),
+        grid::lf_group_dim(f),
+        grid::groups_per_row(f),
+        grid::lf_groups_per_row(f),
+        grid::num_groups(f),
+        grid::num_lf_groups(f),
+        grid::section_count(f),
+    ];
+    for n in all {
+        number(out, n);
+    }
 }
 
 fn group(out: &mut Output, p: Placed, size: Size, touches: Touches) {
     let b = p.rect;
-    replay::cells(
-        out,
-        &[
-            b.left,
-            b.top,
-            b.width,
-            b.height,
-            p.refusal.number,
-            size.width,
-            size.height,
-            size.refusal.number,
-            touches.value as u32,
-            touches.refusal.number,
-        ],
-    );
+    out.cells(&[
+        b.left,
+        b.top,
+        b.width,
+        b.height,
+        p.refusal.number,
+        size.width,
+        size.height,
+        size.refusal.number,
+        u32::from(touches.value),
+        touches.refusal.number,
+    ]);
 }

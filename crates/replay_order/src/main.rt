@@ -3,7 +3,7 @@
 // length, a number, and ten words.
 #![tactic(auto)]
 
-use replay::{Numbers, Output};
+use replay::{Output, Tally, WORDS};
 use std::io;
 
 fn main(rt: HostRuntime) -> io::Result<()> {
@@ -20,71 +20,53 @@ fn main(rt: HostRuntime) -> io::Result<()> {
 }
 
 fn record(out: &mut Output, r: &[u8]) {
-    let p = replay::four(r, 0);
-    let mut entries = replay::table(0);
-    let mut table = replay::table(7);
-    make(r, p, &mut entries);
-    let n = replay::room_words(&entries, p.b);
-    let m = replay::room_words(&table, p.d);
-    act(
-        out,
-        p.c,
-        replay::word(r, 16),
-        &entries[..n],
-        &mut table[..m],
-    );
+    let [made, length, count, room] = replay::four(r, 0);
+    let mut entries: [u32; WORDS] = replay::table(0);
+    let mut table: [u32; WORDS] = replay::table(7);
+    make(r, made, length, &mut entries);
+    let n = replay::room(&entries, length);
+    let m = replay::room(&table, room);
+    let table = &mut table[..m];
+    answers(out, &entries[..n], count, replay::word(r, 16), table);
+    show(out, table);
 }
 
-fn make(r: &[u8], p: Numbers, entries: &mut [u32]) {
-    if p.a == 0 {
+fn make(r: &[u8], made: u32, length: u32, entries: &mut [u32]) {
+    if made == 0 {
         replay::put_words(entries, r, 20, 10);
         return;
     }
-    replay::reversed(entries, p.b);
+    replay::reversed(entries, length);
     fill::put_u32(entries, replay::word(r, 20) as usize, replay::word(r, 24));
-}
-
-fn act(out: &mut Output, count: u32, number: u32, entries: &[u32], table: &mut [u32]) {
-    answers(out, entries, count, number, table);
-    show(out, table);
 }
 
 // The check, the inverse, a section's sent number through the order, and a sent number's section through the table.
 fn answers(out: &mut Output, entries: &[u32], count: u32, number: u32, table: &mut [u32]) {
-    replay::refusal(out, order::check_order(entries, count));
+    out.refusal(order::check_order(entries, count));
     let inverted = toc::invert(entries, count, table);
     let sent = order::sent_of(entries, count, order::SectionNumber(number));
     let section = order::section_of(table, count, order::SentNumber(number));
-    replay::cells(
-        out,
-        &[
-            inverted.number,
-            sent.refusal.number,
-            sent.sent.0,
-            section.refusal.number,
-            section.section.0,
-        ],
-    );
+    out.cells(&[
+        inverted.number,
+        sent.refusal.number,
+        sent.sent.0,
+        section.refusal.number,
+        section.section.0,
+    ]);
 }
 
 // All of the table in one number, then its first eight words.
 fn show(out: &mut Output, t: &[u32]) {
-    let all = replay::sum_words(out, false, false, 0, t);
-    out.decimal(all);
-    let n = replay::room_words(t, 8);
-    first(out, &t[..n]);
-    replay::end(out);
-}
-
-fn first(out: &mut Output, t: &[u32]) {
-    let mut i: usize = 0;
-    while i < t.len() {
+    let mut all = Tally {
+        big: false,
+        full: false,
+        sum: 0,
+    };
+    all.add(t);
+    out.decimal(all.sum);
+    for x in t.iter().take(8) {
         out.text(b"\t");
-        out.decimal(wide(t[i]));
-        i += 1;
+        out.decimal(u64::from(*x));
     }
-}
-
-fn wide(x: u32) -> u64 {
-    x as u64
+    out.end();
 }

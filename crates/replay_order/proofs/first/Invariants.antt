@@ -1,9 +1,0 @@
--- `first`: a word a turn.
-use Rattle.std.proofs.Common.{length, ◌≤◌, ◌-◌}
-use Rattle.replay_order.proofs.first.Given as goal
-
-abbrev pub invariant-loop-i : goal.invariant-loop-i
-invariant-loop-i l = l.i ≤ length l.t
-
-abbrev pub decreases-loop-i : goal.decreases-loop-i
-decreases-loop-i l = length l.t - l.i
