@@ -9,7 +9,7 @@
 mod shown;
 
 use header::Facts;
-use replay::Output;
+use replay::{Output, Summand, Tally};
 use std::io;
 use std::io::Stdin;
 
@@ -27,57 +27,32 @@ fn main(rt: HostRuntime) -> io::Result<()> {
 }
 
 fn record(input: &mut Stdin, out: &mut Output, r: &[u8]) -> io::Result<()> {
-    if replay::word(r, 0) == 2 {
+    let what = replay::word(r, 0);
+    if what == 2 {
         shown::questions(out, replay::word(r, 4), replay::long(r, 8));
         return Ok(());
     }
     let mut given = [0u8; 4096];
-    let n = replay::room_bytes(&given, replay::word(r, 32));
-    runs(input, out, r, &mut given[..n])
-}
-
-fn runs(input: &mut Stdin, out: &mut Output, r: &[u8], s: &mut [u8]) -> io::Result<()> {
+    let n = replay::room(&given, replay::word(r, 32));
+    let s = &mut given[..n];
     input::read_full(input, s)?;
-    if replay::word(r, 0) == 1 {
-        cuts(out, r, s);
+    if what == 1 {
+        for k in 0..s.len() {
+            one(out, r, &s[..k]);
+        }
     }
     one(out, r, s);
     Ok(())
-}
-
-// Every prefix but the whole.
-fn cuts(out: &mut Output, r: &[u8], s: &[u8]) {
-    let mut k: usize = 0;
-    while k < s.len() {
-        one(out, r, &s[..k]);
-        k += 1;
-    }
 }
 
 fn one(out: &mut Output, r: &[u8], s: &[u8]) {
     let mut name = [165u8; 1080];
     let mut upsampling = [2779096485u32; 260];
     let mut blending = [2779096485u32; 1030];
-    read(out, r, s, &mut name, &mut upsampling, &mut blending);
-    replay::show(out, replay::sum_bytes(true, 0, &name));
-    let words = replay::sum_words(out, true, false, 0, &upsampling);
-    replay::show(out, words);
-    let last = replay::sum_words(out, true, false, 0, &blending);
-    out.decimal(last);
-    replay::end(out);
-}
-
-fn read(
-    out: &mut Output,
-    r: &[u8],
-    s: &[u8],
-    name: &mut [u8],
-    upsampling: &mut [u32],
-    blending: &mut [u32],
-) {
-    let a = replay::room_bytes(name, replay::word(r, 20));
-    let b = replay::room_words(upsampling, replay::word(r, 24));
-    let c = replay::room_words(blending, replay::word(r, 28));
+    let [a, b, c, _] = replay::four(r, 20);
+    let a = replay::room(&name, a);
+    let b = replay::room(&upsampling, b);
+    let c = replay::room(&blending, c);
     shown::answer(
         out,
         header::read_frame_header(
@@ -88,17 +63,31 @@ fn read(
             &mut blending[..c],
         ),
     );
+    out.show(all(&name));
+    out.show(all(&upsampling));
+    out.decimal(all(&blending));
+    out.end();
+}
+
+fn all<T: Summand>(xs: &[T]) -> u64 {
+    let mut all = Tally {
+        big: true,
+        full: false,
+        sum: 0,
+    };
+    all.add(xs);
+    all.sum
 }
 
 fn facts(r: &[u8]) -> Facts {
-    let q = replay::four(r, 4);
+    let [width, height, flags, extra] = replay::four(r, 4);
     Facts {
-        width: q.a,
-        height: q.b,
-        xyb: q.c % 2 == 1,
-        grey: q.c / 2 % 2 == 1,
-        extra: q.d,
-        animation: q.c / 4 % 2 == 1,
-        timecodes: q.c / 8 % 2 == 1,
+        width,
+        height,
+        xyb: flags % 2 == 1,
+        grey: flags / 2 % 2 == 1,
+        extra,
+        animation: flags / 4 % 2 == 1,
+        timecodes: flags / 8 % 2 == 1,
     }
 }

@@ -1,19 +1,46 @@
 // Every number of a header, shown where nothing was refused, and all of them in one.
-use filter::{EpfParams, Gabor};
-use header::{FrameHeader, HeaderAnswer, Passes};
-use replay::Output;
+use filter::RestorationFilter;
+use header::{FrameHeader, HeaderAnswer};
+use replay::{Output, Tally};
 use types::{BlendMode, Encoding, FrameFlags, FrameType};
 
 pub fn answer(out: &mut Output, a: HeaderAnswer) {
     let refusal = a.refusal;
-    replay::refusal(out, refusal);
-    replay::show(out, a.end);
-    let full = refusal.number == 0;
+    out.refusal(refusal);
+    out.show(a.end);
     let h = a.header;
+    let mut all = Tally {
+        big: true,
+        full: refusal.number == 0,
+        sum: 0,
+    };
+    opening(out, &mut all, h);
+    arrays(out, &mut all, h);
+    closing(out, &mut all, h);
+    filters(out, &mut all, h.restoration_filter);
+    out.show(all.sum);
+}
+
+fn opening(out: &mut Output, all: &mut Tally, h: FrameHeader) {
+    all.add_shown(out, &[h.frame_type as u32, h.encoding as u32]);
+    flags(out, all, h.flags);
+    all.add_shown(out, &[u32::from(h.do_ycbcr), h.encoded_color_channels]);
+}
+
+fn flags(out: &mut Output, all: &mut Tally, f: FrameFlags) {
+    all.add_shown(out, &[f.0]);
+    let five = [
+        f.noise(),
+        f.patches(),
+        f.splines(),
+        f.use_lf_frame(),
+        f.skip_adaptive_lf_smoothing(),
+    ];
+    all.add_shown(out, &five.map(u32::from));
+}
+
+fn arrays(out: &mut Output, all: &mut Tally, h: FrameHeader) {
     let p = h.passes;
-    let jpeg = h.jpeg_upsampling;
-    let v = h.restoration_filter;
-    let epf = v.epf;
     let six = [
         h.upsampling,
         h.group_size_shift,
@@ -22,75 +49,41 @@ pub fn answer(out: &mut Output, a: HeaderAnswer) {
         p.num_passes,
         p.num_ds,
     ];
-    let b = opening(out, full, h);
-    let c = arrays(out, full, b, jpeg, six, p);
-    let d = closing(out, full, c, h);
-    let three = [v.gab.enabled() as u32, epf.enabled() as u32, epf.iters];
-    let all = filters(out, full, d, three, v.gab, epf.params);
-    replay::show(out, all);
-}
-
-fn opening(out: &mut Output, full: bool, h: FrameHeader) -> u64 {
-    let kind = h.frame_type;
-    let coded = h.encoding;
-    let a = replay::sum_words(out, true, full, 0, &[frame_type(kind), encoding(coded)]);
-    let b = flags(out, full, a, h.flags);
-    let two = [h.do_ycbcr as u32, h.encoded_color_channels];
-    replay::sum_words(out, true, full, b, &two)
-}
-
-fn flags(out: &mut Output, full: bool, sum: u64, f: FrameFlags) -> u64 {
-    let a = replay::sum_longs(out, true, full, sum, &[f.0]);
-    let five = [
-        f.noise() as u32,
-        f.patches() as u32,
-        f.splines() as u32,
-        f.use_lf_frame() as u32,
-        f.skip_adaptive_lf_smoothing() as u32,
-    ];
-    replay::sum_words(out, true, full, a, &five)
-}
-
-fn arrays(out: &mut Output, full: bool, sum: u64, jpeg: [u32; 3], six: [u32; 6], p: Passes) -> u64 {
-    let shift = p.shift;
-    let downsample = p.downsample;
-    let last_pass = p.last_pass;
-    let a = replay::sum_words(out, true, full, sum, &jpeg);
-    let b = replay::sum_words(out, true, full, a, &six);
-    let c = replay::sum_words(out, true, full, b, &shift);
-    let d = replay::sum_words(out, true, full, c, &downsample);
-    replay::sum_words(out, true, full, d, &last_pass)
+    all.add_shown(out, &h.jpeg_upsampling);
+    all.add_shown(out, &six);
+    all.add_shown(out, &p.shift);
+    all.add_shown(out, &p.downsample);
+    all.add_shown(out, &p.last_pass);
 }
 
 // The crop, the blending, the closing fields, and what is asked of a header. A number below 0 is 1 and k for -1 - k.
-fn closing(out: &mut Output, full: bool, sum: u64, h: FrameHeader) -> u64 {
+fn closing(out: &mut Output, all: &mut Tally, h: FrameHeader) {
     let i = h.blending_info;
-    let mode = i.mode;
     let f = h.frame();
-    let all = [
+    let numbers = [
         h.lf_level,
-        h.have_crop as u32,
-        (h.x0 < 0) as u32,
+        u32::from(h.have_crop),
+        u32::from(h.x0 < 0),
         replay::size(h.x0),
-        (h.y0 < 0) as u32,
+        u32::from(h.y0 < 0),
         replay::size(h.y0),
         h.width,
         h.height,
-        blend_mode(mode),
+        i.mode as u32,
         i.alpha_channel,
-        i.clamp as u32,
+        u32::from(i.clamp),
         i.source,
         h.duration,
         h.timecode,
-        h.is_last as u32,
+        u32::from(h.is_last),
         h.save_as_reference,
-        h.resets_canvas as u32,
-        h.save_before_ct as u32,
+        u32::from(h.resets_canvas),
+        u32::from(h.save_before_ct),
         h.name_length,
-        h.is_keyframe() as u32,
-        h.can_reference() as u32,
+        u32::from(h.is_keyframe()),
+        u32::from(h.can_reference()),
         h.encoded_color_channels(),
-        h.resets_canvas() as u32,
+        u32::from(h.resets_canvas()),
         f.width,
         f.height,
         f.upsampling,
@@ -98,21 +91,19 @@ fn closing(out: &mut Output, full: bool, sum: u64, h: FrameHeader) -> u64 {
         f.group_size_shift,
         f.num_passes,
     ];
-    replay::sum_words(out, true, full, sum, &all)
+    all.add_shown(out, &numbers);
 }
 
 // The flags and the iterations are printed, the values are in the one number alone.
-fn filters(
-    out: &mut Output,
-    full: bool,
-    sum: u64,
-    three: [u32; 3],
-    gab: Gabor,
-    p: EpfParams,
-) -> u64 {
-    let weights = gab.weights;
-    let lut = p.sharp_lut;
-    let scale = p.channel_scale;
+fn filters(out: &mut Output, all: &mut Tally, v: RestorationFilter) {
+    let gab = v.gab;
+    let epf = v.epf;
+    let p = epf.params;
+    let three = [
+        u32::from(gab.enabled()),
+        u32::from(epf.enabled()),
+        epf.iters,
+    ];
     let last = [
         p.quant_mul,
         p.pass0_sigma_scale,
@@ -120,94 +111,59 @@ fn filters(
         p.border_sad_mul,
         p.sigma_for_modular,
     ];
-    let a = replay::sum_words(out, true, full, sum, &three);
-    let b = replay::sum_floats(out, true, false, a, &weights);
-    let c = replay::sum_floats(out, true, false, b, &lut);
-    let d = replay::sum_floats(out, true, false, c, &scale);
-    replay::sum_floats(out, true, false, d, &last)
+    all.add_shown(out, &three);
+    all.add(&gab.weights);
+    all.add(&p.sharp_lut);
+    all.add(&p.channel_scale);
+    all.add(&last);
 }
 
 pub fn questions(out: &mut Output, n: u32, bits: u64) {
     let t = type_of(n);
-    let e = encoding_of(n);
     let m = mode_of(n);
     let seven = [
-        frame_type(t),
-        t.is_normal_frame() as u32,
-        t.is_lf_frame() as u32,
-        t.is_progressive_frame() as u32,
-        encoding(e),
-        blend_mode(m),
-        m.use_alpha() as u32,
+        t as u32,
+        u32::from(t.is_normal_frame()),
+        u32::from(t.is_lf_frame()),
+        u32::from(t.is_progressive_frame()),
+        encoding_of(n) as u32,
+        m as u32,
+        u32::from(m.use_alpha()),
     ];
-    let sum = replay::sum_words(out, true, true, 0, &seven);
-    let all = flags(out, true, sum, FrameFlags(bits));
-    out.decimal(all);
-    replay::end(out);
+    let mut all = Tally {
+        big: true,
+        full: true,
+        sum: 0,
+    };
+    all.add_shown(out, &seven);
+    flags(out, &mut all, FrameFlags(bits));
+    out.decimal(all.sum);
+    out.end();
 }
 
 // The cases by number, the last one for any other.
 fn type_of(n: u32) -> FrameType {
-    if n == 0 {
-        return FrameType::RegularFrame;
-    }
-    if n == 1 {
-        return FrameType::LfFrame;
-    }
-    if n == 2 {
-        FrameType::ReferenceOnly
-    } else {
-        FrameType::SkipProgressive
+    match n {
+        0 => FrameType::RegularFrame,
+        1 => FrameType::LfFrame,
+        2 => FrameType::ReferenceOnly,
+        _ => FrameType::SkipProgressive,
     }
 }
 
 fn encoding_of(n: u32) -> Encoding {
-    if n == 0 {
-        Encoding::VarDct
-    } else {
-        Encoding::Modular
+    match n {
+        0 => Encoding::VarDct,
+        _ => Encoding::Modular,
     }
 }
 
 fn mode_of(n: u32) -> BlendMode {
-    if n == 0 {
-        return BlendMode::Replace;
-    }
-    if n == 1 {
-        return BlendMode::Add;
-    }
-    if n == 2 {
-        return BlendMode::Blend;
-    }
-    if n == 3 {
-        BlendMode::MulAdd
-    } else {
-        BlendMode::Mul
-    }
-}
-
-fn frame_type(t: FrameType) -> u32 {
-    match t {
-        FrameType::RegularFrame => 0,
-        FrameType::LfFrame => 1,
-        FrameType::ReferenceOnly => 2,
-        FrameType::SkipProgressive => 3,
-    }
-}
-
-fn encoding(e: Encoding) -> u32 {
-    match e {
-        Encoding::VarDct => 0,
-        Encoding::Modular => 1,
-    }
-}
-
-fn blend_mode(m: BlendMode) -> u32 {
-    match m {
-        BlendMode::Replace => 0,
-        BlendMode::Add => 1,
-        BlendMode::Blend => 2,
-        BlendMode::MulAdd => 3,
-        BlendMode::Mul => 4,
+    match n {
+        0 => BlendMode::Replace,
+        1 => BlendMode::Add,
+        2 => BlendMode::Blend,
+        3 => BlendMode::MulAdd,
+        _ => BlendMode::Mul,
     }
 }

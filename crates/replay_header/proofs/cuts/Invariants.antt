@@ -1,9 +1,0 @@
--- `cuts`: a prefix a turn.
-use Rattle.std.proofs.Common.{length, ◌≤◌, ◌-◌}
-use Rattle.replay_header.proofs.cuts.Given as goal
-
-abbrev pub invariant-loop-k : goal.invariant-loop-k
-invariant-loop-k l = l.k ≤ length l.s
-
-abbrev pub decreases-loop-k : goal.decreases-loop-k
-decreases-loop-k l = length l.s - l.k
