@@ -119,5 +119,3 @@ epf on modular =
     bind (within (λ r. four_of r.params) (sigma live modular)) λ four.
     bind (float (live && modular) 15360 λ r. pattern r.params.sigma_for_modular) λ m.
     ends (epf_of iters (settings lut scales four m))
-
-

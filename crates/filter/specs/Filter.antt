@@ -26,5 +26,3 @@ filter_default = record { gab = gabor_default; epf = epf_default }
 -- both disabled
 unfoldable pub filter_disabled : RestorationFilter
 filter_disabled = record { gab = gabor_disabled; epf = epf_disabled }
-
-

@@ -49,5 +49,3 @@ gabor on =
     bind (channel (eqb own 1) 1) λ y.
     bind (channel (eqb own 1) 2) λ z.
     ends (gabor_of enabled own x y z)
-
-
