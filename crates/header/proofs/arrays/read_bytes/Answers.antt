@@ -1,6 +1,8 @@
 -- `read_bytes`: what is left of the walk is what the definition has left to read; four bytes more, or one.
-use Prim.Native.Nat.{◌-◌}
-use mathlib.Core.Path.{◌∙◌}
+use Prim.Native.Nat.{ℕ, ◌-◌}
+use mathlib.Core.Path.{◌∙◌, refl, ap}
+use mathlib.Core.List.{List}
+use lib.ListN.{get_or}
 use native.Mathlib.Omega.{arith}
 use borrow.Author.Tests.{lt-ltb}
 use Rattle.bits.specs.Codec.{u}
@@ -17,13 +19,15 @@ pub loop-i-smaller-then-x : goal.loop-i-smaller-then-x
 loop-i-smaller-then-x c = omega (arith, (four_there c.args.s.now c.loop-i.at (c.args.count - c.loop-i.i) c.take_four-x.result c.take_four-x.ensures c.if-x.true).wanted, c.loop-i-test.true)
 
 pub loop-i-preserved-then-x : goal.loop-i-preserved-then-x
-loop-i-preserved-then-x c = left_four c.args.count c.args.s.now c.args.out.now c.args.c c.loop-i.out c.loop-i.at c.loop-i.i c.loop-i.invariant c.take_four-x.result (four_there c.args.s.now c.loop-i.at (c.args.count - c.loop-i.i) c.take_four-x.result c.take_four-x.ensures c.if-x.true) _ _ _ _ _ _ _ _ _ c.byte_of.ensures c.byte_of-then-x.ensures c.byte_of-then-x-2.ensures c.byte_of-then-x-3.ensures c.put_u8.ensures c.put_u8-then-x.ensures c.put_u8-then-x-2.ensures c.put_u8-then-x-3.ensures c.begin-at.ensures
+loop-i-preserved-then-x c =
+    let byte = λ (k : ℕ). ap (λ (bytes : List ℕ). get_or bytes k 0) c.to_le_bytes.ensures in
+    left_four c.args.count c.args.s.now c.args.out.now c.args.c c.loop-i.out c.loop-i.at c.loop-i.i c.loop-i.invariant c.take_four-x.result (four_there c.args.s.now c.loop-i.at (c.args.count - c.loop-i.i) c.take_four-x.result c.take_four-x.ensures c.if-x.true) _ _ _ _ _ _ _ _ _ (byte 0) (byte 1) (byte 2) (byte 3) c.put_u8.ensures c.put_u8-then-x.ensures c.put_u8-then-x-2.ensures c.put_u8-then-x-3.ensures c.begin-at.ensures
 
-pub byte-b-requires : goal.byte-b-requires
-byte-b-requires c = byte_lt c.args.s.now _ _ c.read_bits-f.ensures
+pub overflow_cast-f : goal.overflow_cast-f
+overflow_cast-f c = record { fits = byte_lt c.args.s.now _ _ c.read_bits-f.ensures }
 
 pub loop-i-preserved : goal.loop-i-preserved
-loop-i-preserved c = left_more (u 8) c.args.count c.args.count 0 c.args.s.now c.args.out.now c.args.c c.loop-i.out c.loop-i.at c.loop-i.i c.loop-i.invariant c.loop-i-test.true c.read_bits-f.result _ _ (c.read_bits-f.ensures ∙ rw (← lt-ltb c.loop-i.i c.args.count c.loop-i-test.true)) c.byte-b.ensures c.put_u8-else-x.ensures
+loop-i-preserved c = left_more (u 8) c.args.count c.args.count 0 c.args.s.now c.args.out.now c.args.c c.loop-i.out c.loop-i.at c.loop-i.i c.loop-i.invariant c.loop-i-test.true c.read_bits-f.result _ _ (c.read_bits-f.ensures ∙ rw (← lt-ltb c.loop-i.i c.args.count c.loop-i-test.true)) refl c.put_u8-else-x.ensures
 
 pub shape_of-out : goal.shape_of-out
 shape_of-out c = c.loop-i.invariant.words.size
