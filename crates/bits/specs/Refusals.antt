@@ -25,7 +25,3 @@ start place = record { at = place; fault = none }
 -- nothing was refused yet
 abbrev pub clear : Cursor → Bool
 clear c = c.fault.number == 0
-
--- an answer, or why there is none: a refusal whose number isn't 0
-abbrev pub answered : {A : Type 0} → Refusal → A → Result A Refusal
-answered r a = pick (r.number == 0) (Ok a) (Err r)

@@ -8,6 +8,7 @@ use lib.Pow.{pow_pos}
 use lib.ListN.{length, get_or}
 use native.Mathlib.Omega.{arith}
 use borrow.Author.Tests.{not-true}
+use Rattle.std.specs.Int.{from_bool}
 use Rattle.bits.specs.declared.Read.{Read}
 use Rattle.bits.specs.declared.Cursor.{Cursor}
 use Rattle.bits.specs.declared.window.Ahead.{Ahead}
@@ -141,6 +142,15 @@ module _ (s : List ℕ) (p : ℕ) (ahead : Ahead) (ea : ahead ≡ ahead_of s p) 
             ((see_is s a.rest clamped 1 2 (omega arith) held_alpha k ek).0 ∙ bool_is s clamped 0 (start a.rest.at) ∙ rw (ec, eα', et))
             eh
             ((see_is s k.rest has 2 0 (omega arith) held_clamp x ex).0 ∙ rw both.0))
+
+-- a Bool as a number
+pub one_if : (b : Bool) → from_bool b ≡ pick b 1 0
+one_if true = refl
+one_if false = refl
+
+pub one_unless : (b : Bool) → from_bool (not b) ≡ pick b 0 1
+one_unless true = refl
+one_unless false = refl
 
 pub closing_law : (s : List ℕ) (c : Cursor) (f : Facts) (o : Opening) (resets : Bool) (duration timecode last reference ct name : Read ℕ) (d e : ℕ)
     → duration ≡ field s ((eqb o.all_default 0 && (eqb o.frame_type 0 || eqb o.frame_type 3)) && f.animation) (u32 durations) 0 c

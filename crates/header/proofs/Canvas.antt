@@ -1,33 +1,17 @@
--- What covers the image, and which mode decides on `source`.
+-- What covers the image.
 use Prim.Native.Nat.{ℕ, suc, ◌+◌, ◌-◌, ◌/◌, ◌%◌, ◌≤◌, ◌<◌}
 use native.Mathlib.Omega.{arith}
 use native.Mathlib.Decide.{dec_le}
 use mathlib.Core.Path.{◌≡◌, sym, ◌∙◌}
 use mathlib.Core.Logic.{by_cases}
-use mathlib.Core.Bool.{Bool, true, false, not, ◌&&◌, ◌||◌}
-use lib.Dec.{leb, eqb}
+use mathlib.Core.Bool.{false}
+use lib.Dec.{leb}
 use lib.IntN.{pos, negsuc, ◌+ℤ◌}
 use lib.Signed.{le_z}
 use borrow.Author.Tests.{ne_eqb, le-leb, lt-leb, lt-ltb, le-ltb}
 use Rattle.bits.specs.Codec.{signed}
 use Rattle.numbers.proofs.Signed.{signed_even}
-use Rattle.header.specs.declared.Facts.{Facts}
-use Rattle.header.specs.declared.shape.Placement.{Placement}
-use Rattle.header.specs.declared.blending.Decider.{Decider}
-use Rattle.header.specs.Blending.{covers_side, covers_image, has_source}
-
-pub source_own : (d : Decider) (own : ℕ) (full b : Bool) → d.own ≡ true → b ≡ (eqb own 0 && full) → not b ≡ has_source d own full
-unfolding has_source
-source_own d own full b h e = rw (e, h)
-
-pub source_given : (d : Decider) (own : ℕ) (full b : Bool) → d.own ≡ false → b ≡ (eqb d.mode 0 && full) → not b ≡ has_source d own full
-unfolding has_source
-source_given d own full b h e = rw (e, h)
-
-pub covers_both : (f : Facts) (c : Placement) (x y b r : Bool) → x ≡ covers_side c.x0 c.width f.width → y ≡ covers_side c.y0 c.height f.height
-    → b ≡ (x && y) → r ≡ (eqb c.have_crop 0 || b) → r ≡ covers_image f c
-unfolding covers_image
-covers_both f c x y b r ex ey eb er = er ∙ rw (eb, ex, ey)
+use Rattle.header.specs.Blending.{covers_side}
 
 -- an odd number is a place before the image
 odd_is : (n : ℕ) → n % 2 ≡ 1 → signed n ≡ negsuc (n / 2)

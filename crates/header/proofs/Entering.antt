@@ -2,17 +2,17 @@
 use Prim.Native.Nat.{ℕ, ◌*◌, ◌≤◌, ◌<◌}
 use native.Mathlib.Omega.{arith}
 use mathlib.Core.Path.{◌≡◌, refl, sym, ◌∙◌, ap}
-use mathlib.Core.Bool.{Bool, true, false, ◌&&◌, ◌||◌}
+use mathlib.Core.Bool.{Bool, true, false, ◌&&◌}
 use mathlib.Core.List.{List, [], ◌∷◌}
-use lib.Dec.{ltb, eqb}
+use lib.Dec.{eqb}
 use lib.IntN.{ℤ}
 use lib.ListN.{length, take}
 use lib.Seq.{sets, length-sets}
-use borrow.Author.Tests.{lt-ltb, le-ltb, eq-eqb, ne_eqb}
+use borrow.Author.Tests.{eq-eqb, ne_eqb}
 use Rattle.bits.specs.declared.Read.{Read}
 use Rattle.bits.specs.declared.Refusal.{Refusal}
 use Rattle.bits.specs.declared.Cursor.{Cursor}
-use Rattle.bits.specs.Refusals.{pick, refusal, none, start}
+use Rattle.bits.specs.Refusals.{pick, none, start}
 use Rattle.bits.specs.Codec.{u, u32, bool, field, signed}
 use Rattle.bits.specs.Bits.{bits_at, there}
 use Rattle.bits.specs.Steps.{cut_at, run}
@@ -38,34 +38,10 @@ use Rattle.header.specs.Opening.{opening, upsamplings}
 use Rattle.header.specs.Blending.{modes, covers_image, source_decider, blending, words}
 use Rattle.header.specs.Header.{Header, Begun, Ended, sent_upsampling, sends_blending, front, back, header}
 use Rattle.header.specs.Record.{HeaderNumbers, info_numbers, numbers_of, color_channels, blending_of, header_of, zero_header}
-use Rattle.header.specs.Entry.{bad_facts, judged, stands, HeaderTold, told, refused_header, answered, Headed}
+use Rattle.header.specs.Entry.{judged, stands, HeaderTold, told, refused_header, answered, Headed}
 use Rattle.header.proofs.Walks.{read_then, times_length, words_length, in_front}
 use Rattle.header.proofs.Columns.{front_read, back_read}
 use Rattle.header.proofs.AllDefault.{header_off}
-
--- 2, 1, 3
-module _ (n : ℕ) (f : Facts) (name upsampling blending : ℕ) (r : Refusal) where
-  pub too_long : 16777216 < n → r ≡ refusal 2 0 → r ≡ judged n f name upsampling blending
-  unfolding judged
-  too_long h e = e ∙ rw (lt-ltb 16777216 n h)
-
-  module _ (h : n ≤ 16777216) (b : Bool) (eb : b ≡ bad_facts f) where
-    pub bad_facts_lem : b ≡ true → r ≡ refusal 1 0 → r ≡ judged n f name upsampling blending
-    unfolding judged
-    bad_facts_lem t e = e ∙ rw (le-ltb 16777216 n h, ← eb, t)
-
-    module _ (ok : b ≡ false) (x y : Bool) (ex : x ≡ (ltb upsampling f.extra || ltb blending (4 * f.extra))) (ey : y ≡ (ltb name 1071 || x)) where
-      pub short : y ≡ true → r ≡ refusal 3 0 → r ≡ judged n f name upsampling blending
-      unfolding judged
-      short t e = e ∙ rw (le-ltb 16777216 n h, ← eb, ok, ← ex, ← ey, t)
-
-      pub good : y ≡ false → r ≡ none → r ≡ judged n f name upsampling blending
-      unfolding judged
-      good t e = e ∙ rw (le-ltb 16777216 n h, ← eb, ok, ← ex, ← ey, t)
-
-pub facts_by : (f : Facts) (a b c d : Bool) → a ≡ (eqb f.width 0 || ltb 1073741824 f.width) → b ≡ (eqb f.height 0 || ltb 1073741824 f.height)
-    → c ≡ (a || b) → d ≡ (c || ltb 256 f.extra) → d ≡ bad_facts f
-facts_by f a b c d ea eb ec ed = ed ∙ rw (ec, ea, eb)
 
 -- the two parts are the header
 pub header_law : (f : Facts) (s : List ℕ) (a : FrontRead) (b : BackRead) (w w' x x' : List ℕ) → Fronted f s a w w' → Backed f a.value.opening a.value.placement s a.next b x x'

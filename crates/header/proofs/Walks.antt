@@ -165,14 +165,15 @@ module _ (count : ℕ) (s before : List ℕ) (c : Cursor) where
 
   module _ (table : List ℕ) (at : Cursor) (i : ℕ) (l : Left (u 8) count count 0 s before c table at i) (x : Piece) (four : Four s at (count - i) x) where
     pub left_four : (v0 v1 v2 v3 : ℕ) (t0 t1 t2 t3 : List ℕ) (b : Cursor)
-        → v0 ≡ x.value / 2 ^ 0 % 256 → v1 ≡ x.value / 2 ^ 8 % 256 → v2 ≡ x.value / 2 ^ 16 % 256 → v3 ≡ x.value / 2 ^ 24 % 256
+        → v0 ≡ x.value % 256 → v1 ≡ x.value / 2 ^ 8 % 256 → v2 ≡ x.value / 2 ^ 16 % 256 → v3 ≡ x.value / 2 ^ 24 % 256
         → t0 ≡ set table i v0 → t1 ≡ set t0 (i + 1) v1 → t2 ≡ set t1 (i + 2) v2 → t3 ≡ set t2 (i + 3) v3 → b ≡ start x.at
         → Left (u 8) count count 0 s before c t3 b (i + 4)
     left_four v0 v1 v2 v3 t0 t1 t2 t3 b e0 e1 e2 e3 s0 s1 s2 s3 eb =
         let p : ℕ = at.at in
         let wanted : 4 ≤ count - i = four.wanted in
+        let lowest : x.value / 2 ^ 0 ≡ x.value = omega arith in
         let room : p + 32 ≤ bit_count s = four.room in
-        let l0 = one_of table at i l (omega arith) four.fine (omega arith) p 0 x.value v0 t0 (omega arith) (omega arith) four.value e0 s0 in
+        let l0 = one_of table at i l (omega arith) four.fine (omega arith) p 0 x.value v0 t0 (omega arith) (omega arith) four.value (rw lowest e0) s0 in
         let l1 = one_of t0 (start (p + 8)) (i + 1) l0 (omega arith) refl (omega arith) p 8 x.value v1 t1 refl (omega arith) four.value e1 s1 in
         let l2 = one_of t1 (start (p + 8 + 8)) (i + 1 + 1) l1 (omega arith) refl (omega arith) p 16 x.value v2 t2 (omega arith) (omega arith) four.value e2 (s2 ∙ ap (λ (j : ℕ). set t1 j v2) (omega arith)) in
         let l3 = one_of t2 (start (p + 8 + 8 + 8)) (i + 1 + 1 + 1) l2 (omega arith) refl (omega arith) p 24 x.value v3 t3 (omega arith) (omega arith) four.value e3 (s3 ∙ ap (λ (j : ℕ). set t2 j v3) (omega arith)) in

@@ -3,77 +3,64 @@
 ghost use Rattle.std.specs.Prelude.{◌≡◌, false, ◌&&◌, List, ℕ, ◌/◌, ◌%◌, ◌^◌, ◌≤◌, ◌<◌, leb};
 ghost use Rattle.bits.specs.Refusals.{pick, clear};
 ghost use Rattle.bits.specs.Steps.{piece};
-ghost use Rattle.bits.specs.Codec.{u, u32};
+ghost use Rattle.bits.specs.Codec.{Codec, u, u32, field};
 ghost use Rattle.bits.specs.Table.{read};
 ghost use Rattle.header.specs.Arrays.{array};
 ghost use Rattle.header.specs.Private.{Arrayed};
 
-use bits::{Choices, Cursor, Piece, begin, bit_count, cut_at, idle, read_bits, read_bits_if, take};
+use bits::{
+    Choices, Cursor, Piece, Read, begin, bit_count, cut_at, idle, read_bits, read_bits_if, take,
+};
 use fill::put;
 use numbers::read_u32_if;
 
-// count numbers of n bits each, of which the first limit stand there.
-pub fn read_bits_array(
+// How an element of an array is coded.
+pub trait Coded: Copy {
+    ghost codec: { Self → Codec };
+
+    fn read_if(self, s: &[u8], c: Cursor, on: bool, default: u32) -> Read<u32>
+        ensures { result ≡ field s.now on (codec self) default c };
+}
+
+// A number of so many bits.
+#[derive(Clone, Copy, Debug, PartialEq, Eq)]
+pub struct Bits(pub u32);
+
+impl Coded for Bits {
+    ghost codec = { λ n. u n.0 };
+
+    fn read_if(self, s: &[u8], c: Cursor, on: bool, default: u32) -> Read<u32> {
+        read_bits_if(s, c, on, self.0, default)
+    }
+}
+
+impl Coded for Choices {
+    ghost codec = { u32 };
+
+    fn read_if(self, s: &[u8], c: Cursor, on: bool, default: u32) -> Read<u32> {
+        read_u32_if(s, c, on, self, default)
+    }
+}
+
+// count elements, of which the first limit stand there.
+pub fn read_array<K: Coded>(
     s: &[u8],
     c: Cursor,
     limit: u32,
     count: u32,
-    n: u32,
+    k: K,
     default: u32,
     out: &mut [u32],
 ) -> Cursor
-    ensures { Arrayed (u n) limit count default s.now c result out.old out.new }
+    ensures { Arrayed (K.codec k) limit count default s.now c result out.old out.new }
 {
     let mut at = c;
-    let mut i: u32 = 0;
-    while i < count {
-        let f = read_bits_if(s, at, i < limit, n, default);
-        let k = i as usize;
-        put(out, k, f.value);
+    for i in 0..count {
+        let f = k.read_if(s, at, i < limit, default);
+        put(out, i as usize, f.value);
         at = f.next;
-        i += 1;
     }
     at
-}
-
-// count U32s, of which the first limit stand there.
-pub fn read_u32_array(
-    s: &[u8],
-    c: Cursor,
-    limit: u32,
-    count: u32,
-    d: Choices,
-    default: u32,
-    out: &mut [u32],
-) -> Cursor
-    ensures { Arrayed (u32 d) limit count default s.now c result out.old out.new }
-{
-    let mut at = c;
-    let mut i: u32 = 0;
-    while i < count {
-        let f = read_u32_if(s, at, i < limit, d, default);
-        let k = i as usize;
-        put(out, k, f.value);
-        at = f.next;
-        i += 1;
-    }
-    at
-}
-
-// A byte that was read.
-fn byte(x: u32) -> u8
-    requires { x < 256 }
-    ensures { result ≡ x }
-{
-    x as u8
-}
-
-// One of four bytes that were read at once.
-fn byte_of(x: u32, shift: u32) -> u8
-    requires { shift ≤ 24 }
-    ensures { result ≡ x / 2 ^ shift % 256 }
-{
-    ((x >> shift) & 255) as u8
 }
 
 // Four bytes at once, where four are left to read and there.
@@ -92,19 +79,20 @@ pub fn read_bytes(s: &[u8], c: Cursor, count: u32, out: &mut [u8]) -> Cursor
 {
     let mut at = c;
     let mut i: u32 = 0;
+    // By hand: how many bytes a turn takes is known only once it has looked at them, which neither `for` nor `chunks` allows.
     while i < count {
         let k = i as usize;
         if let Some(x) = take_four(s, at, count - i) {
-            put(out, k, byte_of(x.value, 0));
-            put(out, k + 1, byte_of(x.value, 8));
-            put(out, k + 2, byte_of(x.value, 16));
-            put(out, k + 3, byte_of(x.value, 24));
+            let [b0, b1, b2, b3] = x.value.to_le_bytes();
+            put(out, k, b0);
+            put(out, k + 1, b1);
+            put(out, k + 2, b2);
+            put(out, k + 3, b3);
             at = begin(x.at);
             i += 4;
         } else {
             let f = read_bits(s, at, 8);
-            let b = byte(f.value);
-            put(out, k, b);
+            put(out, k, f.value as u8);
             at = f.next;
             i += 1;
         }

@@ -9,8 +9,8 @@ ghost use Rattle.header.specs.Blending.{modes, alphas, covers_side, covers_image
 use crate::Facts;
 use crate::shape::Placement;
 use bits::{
-    Choice, Choices, Cursor, Read, Seen, View, begin, both, either, idle, kept, look_ahead, one_of,
-    read_bits_if, read_bool_if, see, see_choice,
+    Choice, Choices, Cursor, Read, Seen, View, begin, idle, kept, look_ahead, read_bits_if,
+    read_bool_if, see, see_choice,
 };
 use fill::put;
 use numbers::{read_enum_if, read_u32_if};
@@ -24,7 +24,7 @@ pub struct BlendingInfo {
     pub source: u32,
 }
 
-// The same in numbers, as they are read and as an extra channel's four words have them.
+// The same in numbers, as they are read (see `Opening`) and as an extra channel's four words have them.
 #[derive(Clone, Copy)]
 pub struct Blending {
     pub mode: u32,
@@ -41,18 +41,20 @@ pub struct Decider {
 }
 
 // U32(0, 1, 2, 3 + u(2))
-fn mode_choices() -> Choices
-    ensures { result ≡ modes }
-{
-    one_of(0, 0, 1, 0, 2, 0, 3, 2)
-}
+const MODES: Choices = Choices {
+    d0: Choice { base: 0, bits: 0 },
+    d1: Choice { base: 1, bits: 0 },
+    d2: Choice { base: 2, bits: 0 },
+    d3: Choice { base: 3, bits: 2 },
+};
 
 // U32(0, 1, 2, 3 + u(3))
-fn alpha_choices() -> Choices
-    ensures { result ≡ alphas }
-{
-    one_of(0, 0, 1, 0, 2, 0, 3, 3)
-}
+const ALPHAS: Choices = Choices {
+    d0: Choice { base: 0, bits: 0 },
+    d1: Choice { base: 1, bits: 0 },
+    d2: Choice { base: 2, bits: 0 },
+    d3: Choice { base: 3, bits: 3 },
+};
 
 // Whether one side of a frame, begun at the signed reading of n, covers the image's.
 fn covers(n: u32, size: u32, image: u32) -> bool
@@ -65,15 +67,17 @@ fn covers(n: u32, size: u32, image: u32) -> bool
 }
 
 // No crop, or a frame that covers the image.
+#[tactic(auto, unfolding(crate::specs::Blending::covers_image))]
 pub fn covers_image(f: Facts, c: Placement) -> bool
     ensures { result ≡ covers_image f c }
 {
     let across = covers(c.x0, c.width, f.width);
     let down = covers(c.y0, c.height, f.height);
-    either(c.have_crop == 0, both(across, down))
+    c.have_crop == 0 || across && down
 }
 
 // Which mode decides on an extra channel's `source`: the facts are asked, and the colour channels' mode is given.
+#[tactic(auto, unfolding(crate::specs::Blending::source_decider))]
 pub fn source_decider(f: Facts, mode: u32) -> Decider
     ensures { result ≡ source_decider f mode }
 {
@@ -81,14 +85,12 @@ pub fn source_decider(f: Facts, mode: u32) -> Decider
 }
 
 // Whether `source` stands there: the deciding mode and the frame do not reset the canvas.
+#[tactic(auto, unfolding(crate::specs::Blending::has_source))]
 fn has_source(d: Decider, own: u32, full: bool) -> bool
     ensures { result ≡ has_source d own full }
 {
-    if d.own {
-        !both(own == 0, full)
-    } else {
-        !both(d.mode == 0, full)
-    }
+    let mode = if d.own { own } else { d.mode };
+    !(mode == 0 && full)
 }
 
 // The choice of U32(0, 1, 2, 3 + u(n)) by its selector.
@@ -121,11 +123,11 @@ fn read_blending_fields(
 ) -> Read<Blending>
     ensures { result ≡ read (blending on extra full d) s.now c }
 {
-    let m = read_enum_if(s, c, on, mode_choices(), 5, 0);
-    let alpha = both(extra, either(m.value == 2, m.value == 3));
-    let a = read_u32_if(s, m.next, alpha, alpha_choices(), 0);
-    let k = read_bool_if(s, a.next, either(alpha, m.value == 4), 0);
-    let source = both(on, has_source(d, m.value, full));
+    let m = read_enum_if(s, c, on, MODES, 5, 0);
+    let alpha = extra && (m.value == 2 || m.value == 3);
+    let a = read_u32_if(s, m.next, alpha, ALPHAS, 0);
+    let k = read_bool_if(s, a.next, alpha || m.value == 4, 0);
+    let source = on && has_source(d, m.value, full);
     let x = read_bits_if(s, k.next, source, 2, 0);
     let next = x.next;
     Read {
@@ -164,9 +166,9 @@ pub fn read_blending_if(
                 2,
             );
             if m.value < 5 {
-                let alpha = both(extra, either(m.value == 2, m.value == 3));
+                let alpha = extra && (m.value == 2 || m.value == 3);
                 let a = see_small(m.rest, alpha, 3);
-                let k = see(a.rest, either(alpha, m.value == 4), 1);
+                let k = see(a.rest, alpha || m.value == 4, 1);
                 let x = see(k.rest, has_source(d, m.value, full), 2);
                 let rest = x.rest;
                 let next = begin(rest.at);
@@ -198,8 +200,7 @@ pub fn read_extra_blending(
     ensures { Extras on n full d s.now c result out.old out.new }
 {
     let mut at = kept(c);
-    let mut i: u32 = 0;
-    while i < n {
+    for i in 0..n {
         let b = read_blending_if(s, at, on, true, full, d);
         let v = b.value;
         let k = (i as usize) * 4;
@@ -208,7 +209,6 @@ pub fn read_extra_blending(
         put(out, k + 2, v.clamp);
         put(out, k + 3, v.source);
         at = kept(b.next);
-        i += 1;
     }
     at
 }

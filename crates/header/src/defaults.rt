@@ -3,21 +3,22 @@ ghost use Rattle.std.specs.Prelude.{◌≡◌};
 ghost use Rattle.header.specs.Private.{default_front, default_back, Defaulted};
 
 use crate::Facts;
-use crate::arrays::read_u32_array;
+use crate::arrays::read_array;
 use crate::blending::{Blending, read_extra_blending, source_decider};
 use crate::closing::Closing;
 use crate::entry::{HeaderAnswer, assemble};
-use crate::opening::{Opening, upsampling_choices};
+use crate::opening::{Opening, UPSAMPLINGS};
 use crate::parts::{Back, Front};
-use crate::shape::{Passes, Placement, Scales, either_number};
+use crate::shape::{Passes, Placement, Scales};
 use bits::{Cursor, accepted};
 use filter::{RestorationFilter, default_filter};
 
 // all_default to the frame's size: a regular VarDCT frame of one pass and the image's size.
+#[tactic(auto, unfolding(crate::specs::Private::default_front))]
 fn default_front(f: Facts) -> Front
     ensures { result ≡ default_front f }
 {
-    let x_qm_scale = either_number(f.xyb, 3, 2);
+    let x_qm_scale = if f.xyb { 3 } else { 2 };
     let shift = [0u32; 10];
     let downsample = [0u32; 4];
     let last_pass = [0u32; 4];
@@ -57,6 +58,7 @@ fn default_front(f: Facts) -> Front
 }
 
 // Blending to the filters: Replace, the last frame, no name, both default filters.
+#[tactic(auto, unfolding(crate::specs::Private::default_back))]
 fn default_back() -> Back
     ensures { result ≡ default_back }
 {
@@ -90,7 +92,7 @@ pub fn give_default(
 ) -> HeaderAnswer
     ensures { Defaulted f at.at result upsampling.old upsampling.new blending.old blending.new }
 {
-    read_u32_array(s, at, 0, f.extra, upsampling_choices(), 1, upsampling);
+    read_array(s, at, 0, f.extra, UPSAMPLINGS, 1, upsampling);
     read_extra_blending(s, at, false, f.extra, true, source_decider(f, 0), blending);
     let front = default_front(f);
     let back = default_back();

@@ -4,17 +4,16 @@ ghost use Rattle.header.specs.Record.{color_channels, info_numbers, blending_of,
 ghost use Rattle.header.specs.Entry.{bad_facts, judged, told, refused_header, Headed};
 ghost use Rattle.header.specs.Private.{Named, ChannelsKept, ChannelsGiven, Filled};
 
-use crate::arrays::{read_bytes, read_u32_array};
+use crate::arrays::{read_array, read_bytes};
 use crate::blending::{Blending, BlendingInfo, covers_image, read_extra_blending, source_decider};
-use crate::cases::{blend_mode_of, encoding_of, frame_type_of};
 use crate::defaults::give_default;
-use crate::opening::{Opening, upsampling_choices};
+use crate::opening::{Opening, UPSAMPLINGS};
 use crate::parts::{
     Back, BackRead, Front, FrontRead, read_back, read_front, sends_blending, sent_upsampling,
 };
-use crate::shape::{Passes, either_number};
+use crate::shape::Passes;
 use crate::{Facts, FrameHeader};
-use bits::{Refusal, accepted, begin, both, read_bool, refused};
+use bits::{Refusal, accepted, begin, read_bool, refused};
 use fill::fill;
 use filter::{RestorationFilter, disabled_filter};
 use numbers::unpack_signed;
@@ -31,16 +30,16 @@ pub struct HeaderAnswer {
 fn color_channels(f: Facts, o: Opening) -> u32
     ensures { result ≡ color_channels f o }
 {
-    let coded = both(o.encoding == 1, o.do_ycbcr != 1);
-    let plain = both(!f.xyb, f.grey);
-    either_number(both(coded, plain), 1, 3)
+    let coded = o.encoding == 1 && o.do_ycbcr != 1;
+    let plain = !f.xyb && f.grey;
+    if coded && plain { 1 } else { 3 }
 }
 
 fn blending_info(b: Blending) -> BlendingInfo
     requires { b.mode < 5 }
     ensures { info_numbers result ≡ blending_of b }
 {
-    let mode = blend_mode_of(b.mode);
+    let mode = BlendMode::try_from(b.mode).unwrap();
     BlendingInfo {
         mode,
         alpha_channel: b.alpha_channel,
@@ -61,8 +60,8 @@ pub fn assemble(f: Facts, a: Front, b: Back) -> FrameHeader
     let blending = b.blending;
     let closing = b.closing;
     let restoration_filter = b.filter;
-    let frame_type = frame_type_of(o.frame_type);
-    let encoding = encoding_of(o.encoding);
+    let frame_type = FrameType::try_from(o.frame_type).unwrap();
+    let encoding = Encoding::try_from(o.encoding).unwrap();
     let flags = FrameFlags(o.flags);
     let encoded_color_channels = color_channels(f, o);
     let jpeg_upsampling = [o.jpeg0, o.jpeg1, o.jpeg2];
@@ -70,7 +69,7 @@ pub fn assemble(f: Facts, a: Front, b: Back) -> FrameHeader
     let y0 = unpack_signed(placement.y0);
     let info = blending_info(blending);
     let full = covers_image(f, placement);
-    let resets_canvas = both(blending.mode == 0, full);
+    let resets_canvas = blending.mode == 0 && full;
     FrameHeader {
         frame_type,
         encoding,
@@ -117,6 +116,7 @@ fn no_passes() -> Passes
 }
 
 // What stands beside a refusal.
+#[tactic(auto, unfolding(crate::specs::Record::zero_header))]
 fn zero_header() -> FrameHeader
     ensures { numbers_of result ≡ zero_header }
 {
@@ -173,14 +173,12 @@ fn refused_header(refusal: Refusal) -> HeaderAnswer
 fn bad_facts(f: Facts) -> bool
     ensures { result ≡ bad_facts f }
 {
-    let size = bits::either(
-        bits::either(f.width == 0, 1073741824 < f.width),
-        bits::either(f.height == 0, 1073741824 < f.height),
-    );
-    bits::either(size, 256 < f.extra)
+    let size = f.width == 0 || 1073741824 < f.width || f.height == 0 || 1073741824 < f.height;
+    size || 256 < f.extra
 }
 
 // 2, 1, 3, before anything is read: by the input's length, the facts and the lengths of the lent buffers.
+#[tactic(auto, unfolding(crate::specs::Entry::judged))]
 pub fn judge_header(n: usize, f: Facts, name: usize, upsampling: usize, blending: usize) -> Refusal
     ensures { result ≡ judged n f name upsampling blending }
 {
@@ -191,10 +189,7 @@ pub fn judge_header(n: usize, f: Facts, name: usize, upsampling: usize, blending
         return refused(1, 0);
     }
     let extra = f.extra as usize;
-    let short = bits::either(
-        name < 1071,
-        bits::either(upsampling < extra, blending < 4 * extra),
-    );
+    let short = name < 1071 || upsampling < extra || blending < 4 * extra;
     if short { refused(3, 0) } else { accepted() }
 }
 
@@ -223,12 +218,12 @@ fn give_channels(
     let back = b.value;
     let o = front.opening;
     let colour = back.blending;
-    read_u32_array(
+    read_array(
         s,
         a.upsampling_at,
         sent_upsampling(f, o),
         f.extra,
-        upsampling_choices(),
+        UPSAMPLINGS,
         1,
         upsampling,
     );

@@ -3,7 +3,6 @@
 
 mod arrays;
 mod blending;
-mod cases;
 mod closing;
 mod defaults;
 mod entry;
@@ -74,7 +73,7 @@ impl FrameHeader {
     {
         let kind = self.frame_type;
         let normal = kind.is_normal_frame();
-        bits::both(normal, bits::either(self.is_last, self.duration != 0))
+        normal && (self.is_last || self.duration != 0)
     }
 
     // Not the last, of no duration or saved, and no LF frame.
@@ -83,8 +82,8 @@ impl FrameHeader {
     {
         let kind = self.frame_type;
         let lf = kind.is_lf_frame();
-        let kept = bits::either(self.duration == 0, self.save_as_reference != 0);
-        bits::both(bits::both(!self.is_last, kept), !lf)
+        let kept = self.duration == 0 || self.save_as_reference != 0;
+        !self.is_last && kept && !lf
     }
 
     pub fn encoded_color_channels(self) -> u32

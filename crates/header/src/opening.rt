@@ -4,10 +4,11 @@ ghost use Rattle.bits.specs.Table.{read};
 ghost use Rattle.header.specs.Opening.{opening, upsamplings};
 
 use crate::Facts;
-use bits::{Choices, Cursor, Read, both, one_of, read_bits_if, read_bool_if};
+use bits::{Choice, Choices, Cursor, Read, read_bits_if, read_bool_if};
 use numbers::{read_u32_if, read_u64_if};
 use types::FrameFlags;
 
+// Kinds and Bools are numbers here, as they are sent: the table of fields (`read (opening ..)`), and what is proved of each of its rows, speak of those.
 #[derive(Clone, Copy)]
 pub struct Opening {
     pub all_default: u32,
@@ -22,11 +23,12 @@ pub struct Opening {
 }
 
 // U32(1, 2, 4, 8)
-pub fn upsampling_choices() -> Choices
-    ensures { result ≡ upsamplings }
-{
-    one_of(1, 0, 2, 0, 4, 0, 8, 0)
-}
+pub const UPSAMPLINGS: Choices = Choices {
+    d0: Choice { base: 1, bits: 0 },
+    d1: Choice { base: 2, bits: 0 },
+    d2: Choice { base: 4, bits: 0 },
+    d3: Choice { base: 8, bits: 0 },
+};
 
 pub fn read_opening(s: &[u8], c: Cursor, f: Facts) -> Read<Opening>
     ensures { result ≡ read (opening f) s.now c }
@@ -36,13 +38,13 @@ pub fn read_opening(s: &[u8], c: Cursor, f: Facts) -> Read<Opening>
     let kind = read_bits_if(s, all.next, on, 2, 0);
     let encoding = read_bits_if(s, kind.next, on, 1, 0);
     let flags = read_u64_if(s, encoding.next, on, 0);
-    let ycbcr = read_bool_if(s, flags.next, both(on, !f.xyb), 0);
+    let ycbcr = read_bool_if(s, flags.next, on && !f.xyb, 0);
     let lf = FrameFlags(flags.value).use_lf_frame();
-    let jpeg = both(ycbcr.value == 1, !lf);
+    let jpeg = ycbcr.value == 1 && !lf;
     let j0 = read_bits_if(s, ycbcr.next, jpeg, 2, 0);
     let j1 = read_bits_if(s, j0.next, jpeg, 2, 0);
     let j2 = read_bits_if(s, j1.next, jpeg, 2, 0);
-    let up = read_u32_if(s, j2.next, both(on, !lf), upsampling_choices(), 1);
+    let up = read_u32_if(s, j2.next, on && !lf, UPSAMPLINGS, 1);
     let next = up.next;
     Read {
         value: Opening {

@@ -4,16 +4,14 @@ ghost use Rattle.header.specs.Header.{sent_upsampling, sends_blending};
 ghost use Rattle.header.specs.Private.{Fronted, Backed};
 
 use crate::Facts;
-use crate::arrays::{pass_bytes, read_u32_array};
+use crate::arrays::{pass_bytes, read_array};
 use crate::blending::{
     Blending, Decider, covers_image, read_blending_if, read_extra_blending, source_decider,
 };
 use crate::closing::{Closing, read_closing};
-use crate::opening::{Opening, read_opening, upsampling_choices};
-use crate::shape::{
-    Passes, Placement, Scales, either_number, read_passes_if, read_placement, read_scales,
-};
-use bits::{Cursor, begin, both, either, kept};
+use crate::opening::{Opening, UPSAMPLINGS, read_opening};
+use crate::shape::{Passes, Placement, Scales, read_passes_if, read_placement, read_scales};
+use bits::{Cursor, begin, kept};
 use filter::{RestorationFilter, read_restoration_filter_if};
 use numbers::read_extensions_if;
 use types::FrameFlags;
@@ -55,17 +53,18 @@ pub fn sent_upsampling(f: Facts, o: Opening) -> u32
     ensures { result ≡ sent_upsampling f o }
 {
     let lf = FrameFlags(o.flags).use_lf_frame();
-    either_number(both(o.all_default == 0, !lf), f.extra, 0)
+    if o.all_default == 0 && !lf {
+        f.extra
+    } else {
+        0
+    }
 }
 
 // A normal frame, whose blending is sent.
 pub fn sends_blending(o: Opening) -> bool
     ensures { result ≡ sends_blending o }
 {
-    both(
-        o.all_default == 0,
-        either(o.frame_type == 0, o.frame_type == 3),
-    )
+    o.all_default == 0 && (o.frame_type == 0 || o.frame_type == 3)
 }
 
 // The extra channels' upsampling goes into a lent table, as much of it as that holds.
@@ -75,12 +74,12 @@ pub fn read_front(s: &[u8], f: Facts, upsampling: &mut [u32]) -> FrontRead
     let a = read_opening(s, begin(0), f);
     let opening = a.value;
     let upsampling_at = a.next;
-    let u = read_u32_array(
+    let u = read_array(
         s,
         upsampling_at,
         sent_upsampling(f, opening),
         f.extra,
-        upsampling_choices(),
+        UPSAMPLINGS,
         1,
         upsampling,
     );
@@ -88,7 +87,7 @@ pub fn read_front(s: &[u8], f: Facts, upsampling: &mut [u32]) -> FrontRead
     let p = read_passes_if(
         s,
         q.next,
-        both(opening.all_default == 0, opening.frame_type != 2),
+        opening.all_default == 0 && opening.frame_type != 2,
     );
     let c = read_placement(s, p.next, f, opening);
     let scales = q.value;
@@ -140,7 +139,7 @@ pub fn read_back(
         source_decider(f, mode),
         channels,
     );
-    let e = read_closing(s, x, f, o, both(mode == 0, full));
+    let e = read_closing(s, x, f, o, mode == 0 && full);
     let closing = e.value;
     let name_at = e.next;
     let n = pass_bytes(s, name_at, closing.name_length);

@@ -5,9 +5,9 @@ ghost use Rattle.bits.specs.Table.{read};
 ghost use Rattle.header.specs.Shape.{pass_counts, downsamples, last_passes, places, passes, scales, placement};
 
 use crate::Facts;
-use crate::arrays::{read_bits_array, read_u32_array};
-use crate::opening::{Opening, upsampling_choices};
-use bits::{Choices, Cursor, Read, both, one_of, read_bits_if, read_bool_if};
+use crate::arrays::{Bits, read_array};
+use crate::opening::{Opening, UPSAMPLINGS};
+use bits::{Choice, Choices, Cursor, Read, read_bits_if, read_bool_if};
 use numbers::read_u32_if;
 
 #[derive(Clone, Copy)]
@@ -27,7 +27,7 @@ pub struct Scales {
     pub b_qm_scale: u32,
 }
 
-// The level of an LF frame, and where a frame lies; x0 and y0 as they are read, unsigned.
+// The level of an LF frame, and where a frame lies; x0 and y0 as they are read, unsigned, and have_crop a number, as in `Opening`.
 #[derive(Clone, Copy)]
 pub struct Placement {
     pub lf_level: u32,
@@ -38,62 +38,61 @@ pub struct Placement {
     pub height: u32,
 }
 
-// One less, and 0 for 0.
-fn one_less(n: u32) -> u32
-    ensures { result ≡ n - 1 }
-{
-    if 1 <= n { n - 1 } else { 0 }
-}
-
-// The first number or the second.
-pub fn either_number(first: bool, a: u32, b: u32) -> u32
-    ensures { result ≡ pick first a b }
-{
-    if first { a } else { b }
-}
-
 // U32(1, 2, 3, 4 + u(3))
-fn pass_choices() -> Choices
-    ensures { result ≡ pass_counts }
-{
-    one_of(1, 0, 2, 0, 3, 0, 4, 3)
-}
+const PASS_COUNTS: Choices = Choices {
+    d0: Choice { base: 1, bits: 0 },
+    d1: Choice { base: 2, bits: 0 },
+    d2: Choice { base: 3, bits: 0 },
+    d3: Choice { base: 4, bits: 3 },
+};
 
 // U32(0, 1, 2, 3 + u(1))
-fn ds_choices() -> Choices
-    ensures { result ≡ downsamples }
-{
-    one_of(0, 0, 1, 0, 2, 0, 3, 1)
-}
+const DOWNSAMPLES: Choices = Choices {
+    d0: Choice { base: 0, bits: 0 },
+    d1: Choice { base: 1, bits: 0 },
+    d2: Choice { base: 2, bits: 0 },
+    d3: Choice { base: 3, bits: 1 },
+};
 
 // U32(0, 1, 2, u(3))
-fn last_pass_choices() -> Choices
-    ensures { result ≡ last_passes }
-{
-    one_of(0, 0, 1, 0, 2, 0, 0, 3)
-}
+const LAST_PASSES: Choices = Choices {
+    d0: Choice { base: 0, bits: 0 },
+    d1: Choice { base: 1, bits: 0 },
+    d2: Choice { base: 2, bits: 0 },
+    d3: Choice { base: 0, bits: 3 },
+};
 
 // U32(u(8), 256 + u(11), 2304 + u(14), 18688 + u(30))
-fn place_choices() -> Choices
-    ensures { result ≡ places }
-{
-    one_of(0, 8, 256, 11, 2304, 14, 18688, 30)
-}
+const PLACES: Choices = Choices {
+    d0: Choice { base: 0, bits: 8 },
+    d1: Choice {
+        base: 256,
+        bits: 11,
+    },
+    d2: Choice {
+        base: 2304,
+        bits: 14,
+    },
+    d3: Choice {
+        base: 18688,
+        bits: 30,
+    },
+};
 
 // The bundle `Passes`.
 pub fn read_passes_if(s: &[u8], c: Cursor, on: bool) -> Read<Passes>
     ensures { result ≡ read (passes on) s.now c }
 {
-    let n = read_u32_if(s, c, on, pass_choices(), 1);
+    let n = read_u32_if(s, c, on, PASS_COUNTS, 1);
     let several = n.value != 1;
-    let ds = read_u32_if(s, n.next, several, ds_choices(), 0);
-    let shifts = one_less(n.value);
+    let ds = read_u32_if(s, n.next, several, DOWNSAMPLES, 0);
+    let shifts = n.value.saturating_sub(1);
     let mut shift = [0u32; 10];
     let mut downsample = [0u32; 4];
     let mut last_pass = [0u32; 4];
-    let a = read_bits_array(s, ds.next, shifts, 10, 2, 0, &mut shift);
-    let b = read_u32_array(s, a, ds.value, 4, upsampling_choices(), 0, &mut downsample);
-    let next = read_u32_array(s, b, ds.value, 4, last_pass_choices(), 0, &mut last_pass);
+    let a = read_array(s, ds.next, shifts, 10, Bits(2), 0, &mut shift);
+    let b = read_array(s, a, ds.value, 4, UPSAMPLINGS, 0, &mut downsample);
+    let next = read_array(s, b, ds.value, 4, LAST_PASSES, 0, &mut last_pass);
     Read {
         value: Passes {
             num_passes: n.value,
@@ -110,10 +109,10 @@ pub fn read_scales(s: &[u8], c: Cursor, f: Facts, o: Opening) -> Read<Scales>
     ensures { result ≡ read (scales f o) s.now c }
 {
     let modular = o.encoding == 1;
-    let xyb = both(f.xyb, o.encoding == 0);
-    let scaled = both(o.all_default == 0, xyb);
+    let xyb = f.xyb && o.encoding == 0;
+    let scaled = o.all_default == 0 && xyb;
     let shift = read_bits_if(s, c, modular, 2, 1);
-    let x = read_bits_if(s, shift.next, scaled, 3, either_number(xyb, 3, 2));
+    let x = read_bits_if(s, shift.next, scaled, 3, if xyb { 3 } else { 2 });
     let b = read_bits_if(s, x.next, scaled, 3, 2);
     let next = b.next;
     Read {
@@ -131,14 +130,14 @@ pub fn read_placement(s: &[u8], c: Cursor, f: Facts, o: Opening) -> Read<Placeme
 {
     let is_lf = o.frame_type == 1;
     let level = read_bits_if(s, c, is_lf, 2, 0);
-    let lf_level = either_number(is_lf, level.value + 1, 0);
-    let cropped = read_bool_if(s, level.next, both(o.all_default == 0, !is_lf), 0);
+    let lf_level = if is_lf { level.value + 1 } else { 0 };
+    let cropped = read_bool_if(s, level.next, o.all_default == 0 && !is_lf, 0);
     let crop = cropped.value == 1;
-    let placed = both(crop, o.frame_type != 2);
-    let x = read_u32_if(s, cropped.next, placed, place_choices(), 0);
-    let y = read_u32_if(s, x.next, placed, place_choices(), 0);
-    let w = read_u32_if(s, y.next, crop, place_choices(), f.width);
-    let h = read_u32_if(s, w.next, crop, place_choices(), f.height);
+    let placed = crop && o.frame_type != 2;
+    let x = read_u32_if(s, cropped.next, placed, PLACES, 0);
+    let y = read_u32_if(s, x.next, placed, PLACES, 0);
+    let w = read_u32_if(s, y.next, crop, PLACES, f.width);
+    let h = read_u32_if(s, w.next, crop, PLACES, f.height);
     let next = h.next;
     Read {
         value: Placement {

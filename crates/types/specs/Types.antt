@@ -1,11 +1,12 @@
 -- The enums of a frame header: each case's number, and their questions. Every promise that answers such an enum names its number.
-use Rattle.std.specs.Prelude.{ℕ, ◌/◌, ◌%◌, Bool, true, false, eqb}
+use Rattle.std.specs.Prelude.{ℕ, ◌/◌, ◌%◌, Bool, true, false, eqb, cond, Result, Ok, Err}
 use Rattle.types.specs.declared.FrameType.{FrameType}
 use Rattle.types.specs.declared.FrameType.TheVariants.{RegularFrame, LfFrame, ReferenceOnly, SkipProgressive}
 use Rattle.types.specs.declared.Encoding.{Encoding}
 use Rattle.types.specs.declared.Encoding.TheVariants.{VarDct, Modular}
 use Rattle.types.specs.declared.BlendMode.{BlendMode}
 use Rattle.types.specs.declared.BlendMode.TheVariants.{Replace, Add, Blend, MulAdd, Mul}
+use Rattle.types.specs.declared.UnknownCase.{UnknownCase}
 
 -- the types of a frame, u(2)
 abbrev pub frame_type_number : FrameType → ℕ
@@ -36,6 +37,33 @@ is_encoding n e = eqb n (encoding_number e)
 
 abbrev pub is_mode : ℕ → BlendMode → Bool
 is_mode n m = eqb n (blend_mode_number m)
+
+-- the case that a number names, or the number itself where none has it
+abbrev pub unknown : ℕ → UnknownCase
+unknown n = record { 0 = n }
+
+abbrev pub frame_type_named : ℕ → Result FrameType UnknownCase
+frame_type_named n =
+    cond (is_type n RegularFrame) (Ok RegularFrame)
+    (cond (is_type n LfFrame) (Ok LfFrame)
+    (cond (is_type n ReferenceOnly) (Ok ReferenceOnly)
+    (cond (is_type n SkipProgressive) (Ok SkipProgressive)
+    (Err (unknown n)))))
+
+abbrev pub encoding_named : ℕ → Result Encoding UnknownCase
+encoding_named n =
+    cond (is_encoding n VarDct) (Ok VarDct)
+    (cond (is_encoding n Modular) (Ok Modular)
+    (Err (unknown n)))
+
+abbrev pub blend_mode_named : ℕ → Result BlendMode UnknownCase
+blend_mode_named n =
+    cond (is_mode n Replace) (Ok Replace)
+    (cond (is_mode n Add) (Ok Add)
+    (cond (is_mode n Blend) (Ok Blend)
+    (cond (is_mode n MulAdd) (Ok MulAdd)
+    (cond (is_mode n Mul) (Ok Mul)
+    (Err (unknown n))))))
 
 abbrev pub is_normal : FrameType → Bool
 is_normal RegularFrame = true

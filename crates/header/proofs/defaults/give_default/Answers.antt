@@ -4,7 +4,7 @@ use Rattle.header.proofs.Entering.{default_named}
 use Rattle.header.proofs.defaults.give_default.Goals as goal
 
 pub shape_of-upsampling : goal.shape_of-upsampling
-shape_of-upsampling c = c.read_u32_array.auto.out
+shape_of-upsampling c = c.read_array.auto.out
 
 pub shape_of-blending : goal.shape_of-blending
 shape_of-blending c = c.read_extra_blending.auto.out
@@ -19,5 +19,5 @@ returns c =
     c.default_back-back.ensures
     c.assemble-header.ensures
     c.accepted.ensures
-    (rw c.upsampling_choices.ensures at c.read_u32_array.ensures)
+    c.read_array.ensures
     (rw c.source_decider.ensures at c.read_extra_blending.ensures)

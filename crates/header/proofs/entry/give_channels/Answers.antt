@@ -17,5 +17,5 @@ returns-then-f-le8 c = given_kept c.args.f c.args.s.now c.args.a c.args.b c.args
 pub returns : goal.returns
 returns c =
     given_read c.args.f c.args.s.now c.args.a c.args.b c.args.upsampling.now _ c.args.blending.now _ _ _
-    (rw (c.sent_upsampling.ensures, c.upsampling_choices.ensures) at c.read_u32_array.ensures)
+    (rw c.sent_upsampling.ensures at c.read_array.ensures)
     (rw (c.sends_blending.ensures, c.covers_image.ensures, c.source_decider.ensures) at c.read_extra_blending.ensures)

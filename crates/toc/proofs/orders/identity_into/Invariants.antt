@@ -6,4 +6,3 @@ use Rattle.toc.proofs.orders.identity_into.Given as goal
 
 abbrev pub invariant-loop-i : goal.invariant-loop-i
 invariant-loop-i l = Values l.initial.table 0 (identity l.count) l.end l.table l.i
-

@@ -5,4 +5,3 @@ use Rattle.toc.proofs.orders.inverse_into.Given as goal
 
 abbrev pub invariant-loop-j : goal.invariant-loop-j
 invariant-loop-j l = Placing (λ k. k) (take l.count l.order) l.initial.inverse l.inverse l.j
-
