@@ -1,7 +1,7 @@
 // The header's first fields: all_default to upsampling.
 ghost use Rattle.std.specs.Prelude.{◌≡◌};
 ghost use Rattle.bits.specs.Table.{read};
-ghost use Rattle.header.specs.Opening.{opening, upsamplings};
+ghost use Rattle.header.specs.Opening.{opening};
 ghost use Rattle.header.specs.Private.{opening_read};
 
 use crate::Facts;
