@@ -9,8 +9,7 @@ use lib.Seq.{sets}
 use borrow.Author.Tests.{le-ltb}
 use Rattle.bits.specs.declared.Read.{Read}
 use Rattle.bits.specs.declared.Cursor.{Cursor}
-use Rattle.bits.specs.declared.Refusal.{Refusal}
-use Rattle.bits.specs.Refusals.{none, start}
+use Rattle.bits.specs.Refusals.{start}
 use Rattle.bits.specs.Codec.{Codec, bool, u32, field}
 use Rattle.bits.specs.Table.{Table, read, bind, within, times}
 use Rattle.bits.proofs.Tables.{field_off, read_within}
@@ -104,13 +103,13 @@ module _ (f : Facts) (s : List ℕ) (c : Cursor) where
       whole.is
 
   -- what is answered of it
-  pub default_given : (fr : Front) (ba : Back) (h : FrameHeader) (acc : Refusal) (w e : Cursor) (upsampling upsampling' channels channels' : List ℕ)
-      → fr ≡ default_front f → ba ≡ default_back → numbers_of h ≡ header_of f fr ba → acc ≡ none
+  pub default_given : (fr : Front) (ba : Back) (h : FrameHeader) (w e : Cursor) (upsampling upsampling' channels channels' : List ℕ)
+      → fr ≡ default_front f → ba ≡ default_back → numbers_of h ≡ header_of f fr ba
       → Arrayed (u32 upsamplings) 0 f.extra 1 s c w upsampling upsampling'
       → Extras false f.extra true (source_decider f 0) s c e channels channels'
-      → Defaulted f c.at (record { header = h; end = c.at; refusal = acc }) upsampling upsampling' channels channels'
-  default_given fr ba h acc w e upsampling upsampling' channels channels' pf pb ph pa wu we = record {
-    answer = rw (ph, pf, pb, pa);
+      → Defaulted f c.at (record { header = h; end = c.at }) upsampling upsampling' channels channels'
+  default_given fr ba h w e upsampling upsampling' channels channels' pf pb ph wu we = record {
+    answer = rw (ph, pf, pb);
     upsampled = wu.words ∙ ap (λ (o : Read (List ℕ)). sets upsampling 0 o.value) (array_none (u32 upsamplings) 1 _ s c f.extra).is;
     blended = we.content ∙ ap (λ (o : Read (List Blending)). sets channels 0 (words o.value)) (times_none _ no_blending s c (λ i. blending_off true true (source_decider f 0) s c) f.extra 0).is;
   }

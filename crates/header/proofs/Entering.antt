@@ -5,6 +5,7 @@ use mathlib.Core.Path.{◌≡◌, refl, sym, ◌∙◌, ap}
 use mathlib.Core.Bool.{Bool, true, false, ◌&&◌}
 use mathlib.Core.List.{List, [], ◌∷◌}
 use lib.Dec.{eqb}
+use Rattle.std.specs.Prelude.{Result, Ok, Err}
 use lib.IntN.{ℤ}
 use lib.ListN.{length, take}
 use lib.Seq.{sets, length-sets}
@@ -12,7 +13,7 @@ use borrow.Author.Tests.{eq-eqb, ne_eqb}
 use Rattle.bits.specs.declared.Read.{Read}
 use Rattle.bits.specs.declared.Refusal.{Refusal}
 use Rattle.bits.specs.declared.Cursor.{Cursor}
-use Rattle.bits.specs.Refusals.{pick, none, start}
+use Rattle.bits.specs.Refusals.{pick, start, answered as or_refused}
 use Rattle.bits.specs.Codec.{u, u32, bool, field, signed}
 use Rattle.bits.specs.Bits.{bits_at, there}
 use Rattle.bits.specs.Steps.{cut_at, run}
@@ -30,15 +31,15 @@ use Rattle.header.specs.declared.parts.Front.{Front}
 use Rattle.header.specs.declared.parts.Back.{Back}
 use Rattle.header.specs.declared.parts.FrontRead.{FrontRead}
 use Rattle.header.specs.declared.parts.BackRead.{BackRead}
-use Rattle.header.specs.declared.entry.HeaderAnswer.{HeaderAnswer}
+use Rattle.header.specs.declared.entry.HeaderRead.{HeaderRead}
 use Rattle.types.specs.Types.{frame_type_number, encoding_number, blend_mode_number}
 use Rattle.header.specs.Arrays.{array}
 use Rattle.header.specs.Private.{Arrayed, extras, Extras, upsampling_from, blending_from, Fronted, Backed, ChannelsKept, ChannelsGiven, Filled, Defaulted, Named, default_front, default_back}
 use Rattle.header.specs.Opening.{opening, upsamplings}
 use Rattle.header.specs.Blending.{modes, covers_image, source_decider, blending, words}
 use Rattle.header.specs.Header.{Header, Begun, Ended, sent_upsampling, sends_blending, front, back, header}
-use Rattle.header.specs.Record.{HeaderNumbers, info_numbers, numbers_of, color_channels, blending_of, header_of, zero_header}
-use Rattle.header.specs.Entry.{judged, stands, HeaderTold, told, refused_header, answered, Headed}
+use Rattle.header.specs.Record.{HeaderNumbers, info_numbers, numbers_of, color_channels, blending_of, header_of}
+use Rattle.header.specs.Entry.{judged, stands, refused_header, answered, Headed}
 use Rattle.header.proofs.Walks.{read_then, times_length, words_length, in_front}
 use Rattle.header.proofs.Columns.{front_read, back_read}
 use Rattle.header.proofs.AllDefault.{header_off}
@@ -83,58 +84,73 @@ module _ (s : List ℕ) (b : Cursor) (all : Read ℕ) (pb : b ≡ start 0) (pa :
   unfolding field run
   behind_one = one_by s (there s 0 1) (bits_at s 0 1) all (rw pb at pa) one
 
-module _ (f : Facts) (s name upsampling blending : List ℕ) (before : Refusal) (eb : before ≡ judged (length s) f (length name) (length upsampling) (length blending)) where
+-- what was judged first: a refusal that is handed on, or none
+refused_by : {A : Type 0} (r e : Refusal) (a : A) (b : Bool) → eqb r.number 0 ≡ b → ◌≡◌ {A = Result A Refusal} (pick b (Ok a) (Err r)) (Err e) → (r ≡ e) × (b ≡ false)
+refused_by r e a true h q = cc
+refused_by r e a false h q = (cc, refl)
+
+accepted_by : {A : Type 0} (r : Refusal) (a x : A) (b : Bool) → eqb r.number 0 ≡ b → ◌≡◌ {A = Result A Refusal} (pick b (Ok a) (Err r)) (Ok x) → b ≡ true
+accepted_by r a x true h q = refl
+accepted_by r a x false h q = cc
+
+module _ (f : Facts) (s name upsampling blending : List ℕ) where
+  abbrev before : Refusal
+  before = judged (length s) f (length name) (length upsampling) (length blending)
+
   -- refused before anything was read
-  pub refused_first : (before.number ≡ 0 → ⊥) → (r : HeaderAnswer) → told r ≡ refused_header before → Headed f s r name name upsampling upsampling blending blending
+  pub refused_first : {A : Type 0} (t : A) (e : Refusal) → ◌≡◌ {A = Result A Refusal} (or_refused before t) (Err e) → Headed f s (Err e) name name upsampling upsampling blending blending
   unfolding answered
-  refused_first h r er =
-      let no : eqb (judged (length s) f (length name) (length upsampling) (length blending)).number 0 ≡ false = rw (← eb) (ne_eqb before.number 0 h) in
-      record { answer = er ∙ rw (eb, no, no); named = rw (no, no); upsampled = rw (no, no); blended = rw (no, no) }
+  refused_first t e q =
+      let by = refused_by before e t (eqb before.number 0) refl q in
+      let no : eqb before.number 0 ≡ false = by.1 in
+      record { answer = ap refused_header (sym by.0) ∙ rw (no, no); given = rw (no, no); named = rw (no, no); upsampled = rw (no, no); blended = rw (no, no) }
 
-  -- the header is the bit that says all default
-  pub default_all : before.number ≡ 0 → (b : Cursor) (all : Read ℕ) (r : HeaderAnswer) (upsampling' blending' : List ℕ) → b ≡ start 0 → all ≡ field s true bool 0 b → all.value ≡ 1
-      → Defaulted f all.next.at r upsampling upsampling' blending blending' → Headed f s r name name upsampling upsampling' blending blending'
-  unfolding answered
-  default_all go b all r upsampling' blending' pb pa one d =
-      let yes : eqb (judged (length s) f (length name) (length upsampling) (length blending)).number 0 ≡ true = rw (← eb) (eq-eqb before.number 0 go) in
-      let is = header_off f s all.next (one_read s b all pb pa one) in
-      let ok : eqb all.next.fault.number 0 ≡ true = ap (λ (c : Cursor). eqb c.fault.number 0) (behind_one s b all pb pa one) in
-      record {
-        answer = d.answer ∙ rw (yes, is, ok);
-        named = rw (yes, is, ok);
-        upsampled = d.upsampled ∙ rw (yes, is, ok);
-        blended = d.blended ∙ rw (yes, is, ok);
-      }
+  module _ {A : Type 0} (t u : A) (go : ◌≡◌ {A = Result A Refusal} (or_refused before t) (Ok u)) where
+    yes : eqb before.number 0 ≡ true
+    yes = accepted_by before t u (eqb before.number 0) refl go
 
-  module _ (go : before.number ≡ 0) (a : FrontRead) (b : BackRead) (w w' x x' : List ℕ) (fa : Fronted f s a w w')
-      (fb : Backed f a.value.opening a.value.placement s a.next b x x')
-    where
-      yes : eqb (judged (length s) f (length name) (length upsampling) (length blending)).number 0 ≡ true
-      yes = rw (← eb) (eq-eqb before.number 0 go)
+    -- the header is the bit that says all default
+    pub default_all : (b : Cursor) (all : Read ℕ) (r : HeaderRead) (upsampling' blending' : List ℕ) → b ≡ start 0 → all ≡ field s true bool 0 b → all.value ≡ 1
+        → Defaulted f all.next.at r upsampling upsampling' blending blending' → Headed f s (Ok r) name name upsampling upsampling' blending blending'
+    unfolding answered
+    default_all b all r upsampling' blending' pb pa one d =
+        let is = header_off f s all.next (one_read s b all pb pa one) in
+        let ok : eqb all.next.fault.number 0 ≡ true = ap (λ (c : Cursor). eqb c.fault.number 0) (behind_one s b all pb pa one) in
+        record {
+          answer = d.answer ∙ rw (yes, is, ok);
+          given = rw (yes, is, ok);
+          named = rw (yes, is, ok);
+          upsampled = d.upsampled ∙ rw (yes, is, ok);
+          blended = d.blended ∙ rw (yes, is, ok);
+        }
 
-      is : (stands f s).next ≡ b.next
-      is = ap (λ (o : Read Header). o.next) (header_law f s a b w w' x x' fa fb)
+    module _ (a : FrontRead) (b : BackRead) (w w' x x' : List ℕ) (fa : Fronted f s a w w')
+        (fb : Backed f a.value.opening a.value.placement s a.next b x x')
+      where
+        is : (stands f s).next ≡ b.next
+        is = ap (λ (o : Read Header). o.next) (header_law f s a b w w' x x' fa fb)
 
-      -- refused while it was read
-      pub refused_later : (b.next.fault.number ≡ 0 → ⊥) → (r : HeaderAnswer) → told r ≡ refused_header b.next.fault → Headed f s r name name upsampling upsampling blending blending
-      unfolding answered
-      refused_later h r er =
-          let no : eqb b.next.fault.number 0 ≡ false = ne_eqb b.next.fault.number 0 h in
-          record { answer = er ∙ rw (yes, is, no); named = rw (yes, is, no); upsampled = rw (yes, is, no); blended = rw (yes, is, no) }
+        -- refused while it was read
+        pub refused_later : (b.next.fault.number ≡ 0 → ⊥) → Headed f s (Err b.next.fault) name name upsampling upsampling blending blending
+        unfolding answered
+        refused_later h =
+            let no : eqb b.next.fault.number 0 ≡ false = ne_eqb b.next.fault.number 0 h in
+            record { answer = rw (yes, is, no); given = rw (yes, is, no); named = rw (yes, is, no); upsampled = rw (yes, is, no); blended = rw (yes, is, no) }
 
-      -- accepted
-      pub accepted_all : b.next.fault.number ≡ 0 → (r : HeaderAnswer) (name' upsampling' blending' : List ℕ) → Filled f s a b r name name' upsampling upsampling' blending blending'
-          → Headed f s r name name' upsampling upsampling' blending blending'
-      unfolding answered
-      accepted_all h r name' upsampling' blending' fl =
-          let ok : eqb b.next.fault.number 0 ≡ true = eq-eqb b.next.fault.number 0 h in
-          let all = header_law f s a b w w' x x' fa fb in
-          record {
-            answer = fl.answer ∙ rw (yes, all, ok);
-            named = fl.named ∙ rw (yes, all, ok);
-            upsampled = fl.channels.upsampled ∙ rw (yes, all, ok);
-            blended = fl.channels.blended ∙ rw (yes, all, ok);
-          }
+        -- accepted
+        pub accepted_all : b.next.fault.number ≡ 0 → (r : HeaderRead) (name' upsampling' blending' : List ℕ) → Filled f s a b r name name' upsampling upsampling' blending blending'
+            → Headed f s (Ok r) name name' upsampling upsampling' blending blending'
+        unfolding answered
+        accepted_all h r name' upsampling' blending' fl =
+            let ok : eqb b.next.fault.number 0 ≡ true = eq-eqb b.next.fault.number 0 h in
+            let all = header_law f s a b w w' x x' fa fb in
+            record {
+              answer = fl.answer ∙ rw (yes, all, ok);
+              given = rw (yes, all, ok);
+              named = fl.named ∙ rw (yes, all, ok);
+              upsampled = fl.channels.upsampled ∙ rw (yes, all, ok);
+              blended = fl.channels.blended ∙ rw (yes, all, ok);
+            }
 
 -- what a table of eight words for the upsampling and one of 32 for the blending keep of up to eight extra channels
 pub kept_by : (f : Facts) (s : List ℕ) (a : FrontRead) (b : BackRead) (w w' x x' : List ℕ) → length w ≡ 8 → length x ≡ 32 → Fronted f s a w w'
@@ -163,11 +179,11 @@ module _ (f : Facts) (s : List ℕ) (a : FrontRead) (b : BackRead) (upsampling u
   given_read w e wu we = record { upsampled = wu.words; blended = we.content }
 
   -- the record and the arrays of what was read
-  pub filled_by : (hd : FrameHeader) (acc : Refusal) (name name' : List ℕ) (n : Cursor) → numbers_of hd ≡ header_of f a.value b.value → acc ≡ none
+  pub filled_by : (hd : FrameHeader) (name name' : List ℕ) (n : Cursor) → numbers_of hd ≡ header_of f a.value b.value
       → ChannelsGiven f s a b upsampling upsampling' blending blending'
       → Arrayed (u 8) b.value.closing.name_length b.value.closing.name_length 0 s b.name_at n name name'
-      → Filled f s a b (record { header = hd; end = b.next.at; refusal = acc }) name name' upsampling upsampling' blending blending'
-  filled_by hd acc name name' n eh ea g wn = record { answer = rw (eh, ea); named = wn.words; channels = g }
+      → Filled f s a b (record { header = hd; end = b.next.at }) name name' upsampling upsampling' blending blending'
+  filled_by hd name name' n eh g wn = record { answer = rw eh; named = wn.words; channels = g }
 
 -- the record of what was read
 pub assembled : (f : Facts) (a : Front) (b : Back) (k : FrameType) (e : Encoding) (ch : ℕ) (x y : ℤ) (i : BlendingInfo) (full r : Bool)
@@ -207,10 +223,6 @@ assembled f a b k e ch x y i full r pk pe pc px py pi pf pr = rw (pk, pe, pc, px
 pub info_is : (b : Blending) (m : BlendMode) → blend_mode_number m ≡ b.mode
     → info_numbers (record { mode = m; alpha_channel = b.alpha_channel; clamp = eqb b.clamp 1; source = b.source }) ≡ blending_of b
 info_is b m e = rw e
-
-pub refused_is : (r : Refusal) (h : FrameHeader) → numbers_of h ≡ zero_header → ◌≡◌ {A = HeaderTold} (told (record { header = h; end = 0; refusal = r })) (refused_header r)
-unfolding refused_header
-refused_is r h e = ap (λ (n : HeaderNumbers). record { header = n; end = 0; refusal = r }) e
 
 -- the record's enums name what was read: u(2), u(1) and a mode below 5
 opening_named : (f : Facts) (s : List ℕ) (c : Cursor) → ((read (opening f) s c).value.frame_type < 4) × ((read (opening f) s c).value.encoding < 2)

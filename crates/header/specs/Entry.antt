@@ -1,12 +1,13 @@
 -- The entry: what it refuses, what it answers, and what the lent buffers hold after it.
-use Rattle.std.specs.Prelude.{ℕ, ◌*◌, ◌≡◌, Bool, ◌||◌, List, ltb, eqb, length}
+use Rattle.std.specs.Prelude.{ℕ, ◌*◌, ◌≡◌, Bool, ◌||◌, List, ltb, eqb, length, Result, Ok, Err}
+use Rattle.std.specs.Result.{is_ok}
 use Rattle.std.proofs.lemmas.List.Edits.{sets}
 use Rattle.bits.specs.declared.Read.{Read}
 use Rattle.bits.specs.declared.Refusal.{Refusal}
 use Rattle.bits.specs.Refusals.{pick, refusal, none, start}
 use Rattle.bits.specs.Table.{read}
 use Rattle.header.specs.declared.Facts.{Facts}
-use Rattle.header.specs.declared.entry.HeaderAnswer.{HeaderAnswer}
+use Rattle.header.specs.declared.entry.HeaderRead.{HeaderRead}
 use Rattle.header.specs.Blending.{words}
 use Rattle.header.specs.Header.{Header, header}
 use Rattle.header.specs.Record.{HeaderNumbers, numbers_of, header_of, zero_header}
@@ -38,11 +39,12 @@ pub record HeaderTold : Type 0 where
   pub end : ℕ
   pub refusal : Refusal
 
-abbrev pub told : HeaderAnswer → HeaderTold
-told a = record { header = numbers_of a.header; end = a.end; refusal = a.refusal }
-
 unfoldable pub refused_header : Refusal → HeaderTold
 refused_header r = record { header = zero_header; end = 0; refusal = r }
+
+abbrev pub told : Result HeaderRead Refusal → HeaderTold
+told (Ok a) = record { header = numbers_of a.header; end = a.end; refusal = none }
+told (Err r) = refused_header r
 
 -- the record and the place after the last field, or the refusal beside the zero record
 unfoldable pub answered : Facts → Refusal → Read Header → HeaderTold
@@ -55,9 +57,10 @@ answered f before h =
 abbrev pub buffer_after : Refusal → Read Header → List ℕ → List ℕ → List ℕ
 buffer_after before h new buffer = pick (eqb (refusal_of before h).number 0) (sets buffer 0 new) buffer
 
--- what the entry promises: its answer, and every lent buffer
-pub record Headed (f : Facts) (s : List ℕ) (r : HeaderAnswer) (name name' upsampling upsampling' blending blending' : List ℕ) : Type 0 where
+-- what the entry promises: its answer, whether there is one, and every lent buffer
+pub record Headed (f : Facts) (s : List ℕ) (r : Result HeaderRead Refusal) (name name' upsampling upsampling' blending blending' : List ℕ) : Type 0 where
   pub answer : told r ≡ answered f (judged (length s) f (length name) (length upsampling) (length blending)) (stands f s)
+  pub given : is_ok r ≡ eqb (refusal_of (judged (length s) f (length name) (length upsampling) (length blending)) (stands f s)).number 0
   pub named : name' ≡ buffer_after (judged (length s) f (length name) (length upsampling) (length blending)) (stands f s) (stands f s).value.name name
   pub upsampled : upsampling' ≡ buffer_after (judged (length s) f (length name) (length upsampling) (length blending)) (stands f s) (stands f s).value.upsampling upsampling
   pub blended : blending' ≡ buffer_after (judged (length s) f (length name) (length upsampling) (length blending)) (stands f s) (words (stands f s).value.blending) blending

@@ -1,6 +1,6 @@
 // Arrays of fields: the words of a lent table, or the bytes of a name. A place that the table hasn't is passed over, so the same walk
 // serves to judge, on a small table, and to fill.
-ghost use Rattle.std.specs.Prelude.{◌≡◌, false, ◌&&◌, List, ℕ, ◌/◌, ◌%◌, ◌^◌, ◌≤◌, ◌<◌, leb};
+ghost use Rattle.std.specs.Prelude.{◌≡◌, false, ◌&&◌, List, ℕ, leb};
 ghost use Rattle.bits.specs.Refusals.{pick, clear};
 ghost use Rattle.bits.specs.Steps.{piece};
 ghost use Rattle.bits.specs.Codec.{Codec, u, u32, field};

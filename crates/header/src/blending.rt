@@ -4,7 +4,7 @@ ghost use Rattle.bits.specs.Refusals.{pick};
 ghost use Rattle.bits.specs.Codec.{val, plus};
 ghost use Rattle.bits.specs.Table.{read};
 ghost use Rattle.header.specs.Private.{seen_small, Extras};
-ghost use Rattle.header.specs.Blending.{modes, alphas, covers_side, covers_image, source_decider, has_source, blending};
+ghost use Rattle.header.specs.Blending.{covers_side, covers_image, source_decider, has_source, blending};
 
 use crate::Facts;
 use crate::shape::Placement;

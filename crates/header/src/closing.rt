@@ -1,7 +1,7 @@
 // Duration to the name's length.
 ghost use Rattle.std.specs.Prelude.{◌≡◌};
 ghost use Rattle.bits.specs.Table.{read};
-ghost use Rattle.header.specs.Closing.{durations, name_lengths, closing};
+ghost use Rattle.header.specs.Closing.{closing};
 
 use crate::Facts;
 use crate::opening::Opening;

@@ -6,11 +6,11 @@ use crate::Facts;
 use crate::arrays::read_array;
 use crate::blending::{Blending, read_extra_blending, source_decider};
 use crate::closing::Closing;
-use crate::entry::{HeaderAnswer, assemble};
+use crate::entry::{HeaderRead, assemble};
 use crate::opening::{Opening, UPSAMPLINGS};
 use crate::parts::{Back, Front};
 use crate::shape::{Passes, Placement, Scales};
-use bits::{Cursor, accepted};
+use bits::Cursor;
 use filter::{RestorationFilter, default_filter};
 
 // all_default to the frame's size: a regular VarDCT frame of one pass and the image's size.
@@ -89,7 +89,7 @@ pub fn give_default(
     f: Facts,
     upsampling: &mut [u32],
     blending: &mut [u32],
-) -> HeaderAnswer
+) -> HeaderRead
     ensures { Defaulted f at.at result upsampling.old upsampling.new blending.old blending.new }
 {
     read_array(s, at, 0, f.extra, UPSAMPLINGS, 1, upsampling);
@@ -97,9 +97,5 @@ pub fn give_default(
     let front = default_front(f);
     let back = default_back();
     let header = assemble(f, front, back);
-    HeaderAnswer {
-        header,
-        end: at.at,
-        refusal: accepted(),
-    }
+    HeaderRead { header, end: at.at }
 }

@@ -1,7 +1,8 @@
 // The entry: bytes, facts and three lent outputs to the header's record.
 ghost use Rattle.std.specs.Prelude.{◌≡◌, ◌<◌};
-ghost use Rattle.header.specs.Record.{color_channels, info_numbers, blending_of, numbers_of, header_of, no_passes, zero_header};
-ghost use Rattle.header.specs.Entry.{bad_facts, judged, told, refused_header, Headed};
+ghost use Rattle.bits.specs.Refusals.{answered};
+ghost use Rattle.header.specs.Record.{color_channels, info_numbers, blending_of, numbers_of, header_of};
+ghost use Rattle.header.specs.Entry.{bad_facts, judged, Headed};
 ghost use Rattle.header.specs.Private.{Named, ChannelsKept, ChannelsGiven, Filled};
 
 use crate::arrays::{read_array, read_bytes};
@@ -11,20 +12,17 @@ use crate::opening::{Opening, UPSAMPLINGS};
 use crate::parts::{
     Back, BackRead, Front, FrontRead, read_back, read_front, sends_blending, sent_upsampling,
 };
-use crate::shape::Passes;
 use crate::{Facts, FrameHeader};
-use bits::{Refusal, accepted, begin, read_bool, refused};
+use bits::{Refusal, begin, read_bool, refused};
 use fill::fill;
-use filter::{RestorationFilter, disabled_filter};
 use numbers::unpack_signed;
 use types::{BlendMode, Encoding, FrameFlags, FrameType};
 
-// The record with the bit place after the header, or a refusal beside the zero record.
+// The record with the bit place after the header.
 #[derive(Clone, Copy)]
-pub struct HeaderAnswer {
+pub struct HeaderRead {
     pub header: FrameHeader,
     pub end: u64,
-    pub refusal: Refusal,
 }
 
 fn color_channels(f: Facts, o: Opening) -> u32
@@ -100,76 +98,6 @@ pub fn assemble(f: Facts, a: Front, b: Back) -> FrameHeader
     }
 }
 
-fn no_passes() -> Passes
-    ensures { result ≡ no_passes }
-{
-    let shift = [0u32; 10];
-    let downsample = [0u32; 4];
-    let last_pass = [0u32; 4];
-    Passes {
-        num_passes: 0,
-        num_ds: 0,
-        shift,
-        downsample,
-        last_pass,
-    }
-}
-
-// What stands beside a refusal.
-#[tactic(auto, unfolding(crate::specs::Record::zero_header))]
-fn zero_header() -> FrameHeader
-    ensures { numbers_of result ≡ zero_header }
-{
-    let restoration_filter = disabled_filter();
-    let passes = no_passes();
-    let jpeg_upsampling = [0u32; 3];
-    let info = BlendingInfo {
-        mode: BlendMode::Replace,
-        alpha_channel: 0,
-        clamp: false,
-        source: 0,
-    };
-    FrameHeader {
-        frame_type: FrameType::RegularFrame,
-        encoding: Encoding::VarDct,
-        flags: FrameFlags(0),
-        do_ycbcr: false,
-        encoded_color_channels: 0,
-        jpeg_upsampling,
-        upsampling: 0,
-        group_size_shift: 0,
-        x_qm_scale: 0,
-        b_qm_scale: 0,
-        passes,
-        lf_level: 0,
-        have_crop: false,
-        x0: 0,
-        y0: 0,
-        width: 0,
-        height: 0,
-        blending_info: info,
-        duration: 0,
-        timecode: 0,
-        is_last: false,
-        save_as_reference: 0,
-        resets_canvas: false,
-        save_before_ct: false,
-        name_length: 0,
-        restoration_filter,
-    }
-}
-
-fn refused_header(refusal: Refusal) -> HeaderAnswer
-    ensures { told result ≡ refused_header refusal }
-{
-    let header = zero_header();
-    HeaderAnswer {
-        header,
-        end: 0,
-        refusal,
-    }
-}
-
 fn bad_facts(f: Facts) -> bool
     ensures { result ≡ bad_facts f }
 {
@@ -179,18 +107,24 @@ fn bad_facts(f: Facts) -> bool
 
 // 2, 1, 3, before anything is read: by the input's length, the facts and the lengths of the lent buffers.
 #[tactic(auto, unfolding(crate::specs::Entry::judged))]
-pub fn judge_header(n: usize, f: Facts, name: usize, upsampling: usize, blending: usize) -> Refusal
-    ensures { result ≡ judged n f name upsampling blending }
+pub fn judge_header(
+    n: usize,
+    f: Facts,
+    name: usize,
+    upsampling: usize,
+    blending: usize,
+) -> Result<(), Refusal>
+    ensures { result ≡ answered (judged n f name upsampling blending) tt }
 {
     if 16777216 < n {
-        return refused(2, 0);
+        return Err(refused(2, 0));
     }
     if bad_facts(f) {
-        return refused(1, 0);
+        return Err(refused(1, 0));
     }
     let extra = f.extra as usize;
     let short = name < 1071 || upsampling < extra || blending < 4 * extra;
-    if short { refused(3, 0) } else { accepted() }
+    if short { Err(refused(3, 0)) } else { Ok(()) }
 }
 
 // The extra channels' words in the lent buffers: as they were kept, or read again where they are too many to keep.
@@ -249,7 +183,7 @@ fn give_read(
     name: &mut [u8],
     upsampling: &mut [u32],
     blending: &mut [u32],
-) -> HeaderAnswer
+) -> HeaderRead
     requires { ChannelsKept f s.now a b ups.now channels.now × Named a.value b.value }
     ensures { Filled f s.now a b result name.old name.new upsampling.old upsampling.new blending.old blending.new }
 {
@@ -260,10 +194,9 @@ fn give_read(
     give_channels(s, f, a, b, ups, channels, upsampling, blending);
     read_bytes(s, b.name_at, closing.name_length, name);
     let header = assemble(f, front, back);
-    HeaderAnswer {
+    HeaderRead {
         header,
         end: end.at,
-        refusal: accepted(),
     }
 }
 
@@ -274,16 +207,13 @@ pub fn read_frame_header(
     name: &mut [u8],
     upsampling: &mut [u32],
     blending: &mut [u32],
-) -> HeaderAnswer
+) -> Result<HeaderRead, Refusal>
     ensures { Headed f s.now result name.old name.new upsampling.old upsampling.new blending.old blending.new }
 {
-    let before = judge_header(s.len(), f, name.len(), upsampling.len(), blending.len());
-    if before.number != 0 {
-        return refused_header(before);
-    }
+    judge_header(s.len(), f, name.len(), upsampling.len(), blending.len())?;
     let all = read_bool(s, begin(0));
     if all.value == 1 {
-        return give_default(s, all.next, f, upsampling, blending);
+        return Ok(give_default(s, all.next, f, upsampling, blending));
     }
     let mut ups = [0u32; 8];
     let a = read_front(s, f, &mut ups);
@@ -295,7 +225,7 @@ pub fn read_frame_header(
     let end = b.next;
     let fault = end.fault;
     if fault.number != 0 {
-        return refused_header(fault);
+        return Err(fault);
     }
-    give_read(s, f, a, b, &ups, &channels, name, upsampling, blending)
+    Ok(give_read(s, f, a, b, &ups, &channels, name, upsampling, blending))
 }

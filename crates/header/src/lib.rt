@@ -15,7 +15,7 @@ ghost use Rattle.header.specs.Questions.{is_keyframe, can_reference};
 ghost use Rattle.header.specs.Record.{numbers_of, frame_of};
 
 pub use blending::BlendingInfo;
-pub use entry::{HeaderAnswer, judge_header, read_frame_header};
+pub use entry::{HeaderRead, judge_header, read_frame_header};
 use filter::RestorationFilter;
 use grid::Frame;
 pub use shape::Passes;

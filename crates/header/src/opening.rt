@@ -1,7 +1,7 @@
 // The header's first fields: all_default to upsampling.
 ghost use Rattle.std.specs.Prelude.{◌≡◌};
 ghost use Rattle.bits.specs.Table.{read};
-ghost use Rattle.header.specs.Opening.{opening, upsamplings};
+ghost use Rattle.header.specs.Opening.{opening};
 
 use crate::Facts;
 use bits::{Choice, Choices, Cursor, Read, read_bits_if, read_bool_if};

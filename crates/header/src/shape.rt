@@ -1,8 +1,7 @@
 // The group size to the frame's size, and the bundle of passes.
-ghost use Rattle.std.specs.Prelude.{◌≡◌, ◌-◌};
-ghost use Rattle.bits.specs.Refusals.{pick};
+ghost use Rattle.std.specs.Prelude.{◌≡◌};
 ghost use Rattle.bits.specs.Table.{read};
-ghost use Rattle.header.specs.Shape.{pass_counts, downsamples, last_passes, places, passes, scales, placement};
+ghost use Rattle.header.specs.Shape.{passes, scales, placement};
 
 use crate::Facts;
 use crate::arrays::{Bits, read_array};

@@ -14,10 +14,9 @@ assemble-header-requires c = default_named c.args.f _ _ c.default_front-front.en
 
 pub returns : goal.returns
 returns c =
-    default_given c.args.f c.args.s.now c.args.at _ _ c.assemble-header.result _ _ _ _ _ _ _
+    default_given c.args.f c.args.s.now c.args.at _ _ c.assemble-header.result _ _ _ _ _ _
     c.default_front-front.ensures
     c.default_back-back.ensures
     c.assemble-header.ensures
-    c.accepted.ensures
     c.read_array.ensures
     (rw c.source_decider.ensures at c.read_extra_blending.ensures)
