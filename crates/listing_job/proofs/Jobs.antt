@@ -4,11 +4,12 @@ use native.Mathlib.Omega.{arith}
 use native.Mathlib.Decide.{dec_le}
 use mathlib.Core.Path.{◌≡◌, sym, ◌∙◌, ap}
 use mathlib.Core.Logic.{by_cases}
-use mathlib.Core.Bool.{true, false, not}
+use mathlib.Core.Bool.{true, false}
 use mathlib.Core.List.{List}
 use lib.ListN.{length, take, drop, length-take, length-drop}
 use lib.Seq.{take_all, take_at}
-use borrow.Author.Tests.{eq-eqb, ne_eqb, le-leb, not-true, not-false}
+use borrow.Author.Tests.{eq-eqb, ne_eqb, le-leb}
+use Rattle.std.specs.Prelude.{Result}
 use Rattle.bits.specs.declared.Refusal.{Refusal}
 use Rattle.bits.specs.Refusals.{refusal}
 use Rattle.grid.specs.declared.Frame.{Frame}
@@ -27,21 +28,20 @@ use Rattle.toc.specs.declared.TocRead.{TocRead}
 use Rattle.toc.specs.declared.TocRead.TheVariants.{Table, OrderNeeded, Refused}
 use Rattle.toc.specs.Reading.{Tables, first_reading, after, tables_of, Done}
 use Rattle.toc.proofs.Accepted.{Accepted, first_accepted, same_answer, first_telling}
-use Rattle.listing.specs.declared.TextAnswer.{TextAnswer}
 use Rattle.listing.specs.Put.{Texted, fitted}
 use Rattle.listing.specs.Text.{refused_text, order_text}
 use Rattle.listing.specs.Listed.{listing, listing_refusal}
 use Rattle.listing_job.specs.declared.facts.FactsLine.{FactsLine}
-use Rattle.listing_job.specs.Line.{frame_bytes}
+use Rattle.listing_job.specs.Line.{good_line, frame_bytes}
 use Rattle.listing_job.specs.Private.{Lined}
 use Rattle.listing_job.specs.Job.{words, blank, read_text, reading_text, sections_text, headed, header_text, job_text}
 
 -- the same text by another name
-retext : (r q : Refusal) (text more out : List ℕ) (a : TextAnswer) (out' : List ℕ) → r ≡ q → text ≡ more → Texted r text out a out' → Texted q more out a out'
+retext : (r q : Refusal) (text more out : List ℕ) (a : Result ℕ Refusal) (out' : List ℕ) → r ≡ q → text ≡ more → Texted r text out a out' → Texted q more out a out'
 retext r q text more out a out' e f p = rw (← e, ← f) p
 
 -- a line that stands for a longer name
-module _ {out' : List ℕ} (text more out : List ℕ) (a : TextAnswer) where
+module _ {out' : List ℕ} (text more out : List ℕ) (a : Result ℕ Refusal) where
   line_is : text ≡ more → Texted (fitted text out) text out a out' → Texted (fitted more out) more out a out'
   line_is e p = retext (fitted text out) (fitted more out) text more out a out' (ap (λ (t : List ℕ). fitted t out) e) e p
 
@@ -66,7 +66,7 @@ module _ (s : List ℕ) (f : Frame) (place : ℕ) (t : TocRead) (o z p i : List 
   unfolding reading_text
   text_is a e = ap (λ (x : TocRead). read_text f (after (first_reading s f place blank) blank) (first_reading s f place blank).order x) (answer_is a e)
 
-  module _ {out' : List ℕ} (out : List ℕ) (a : TextAnswer) where
+  module _ {out' : List ℕ} (out : List ℕ) (a : Result ℕ Refusal) where
     pub sections_refused : (r : Refusal) → t ≡ Refused r → Texted (fitted (refused_text r) out) (refused_text r) out a out'
         → Texted (fitted (sections_text s f place) out) (sections_text s f place) out a out'
     unfolding read_text
@@ -108,7 +108,7 @@ module _ (s : List ℕ) (f : Frame) (place : ℕ) (t : TocRead) (o z p i : List 
     unfolding read_text
     text = rw (taken, d.offsets, d.sizes) (sym (text_is (Table x) e))
 
-    pub sections_table : {out' : List ℕ} (out : List ℕ) (a : TextAnswer) → Texted (listing_refusal f o z (take (min x.count (length p)) p) out) (listing f o z (take (min x.count (length p)) p)) out a out'
+    pub sections_table : {out' : List ℕ} (out : List ℕ) (a : Result ℕ Refusal) → Texted (listing_refusal f o z (take (min x.count (length p)) p) out) (listing f o z (take (min x.count (length p)) p)) out a out'
         → Texted (fitted (sections_text s f place) out) (sections_text s f place) out a out'
     sections_table {out'} out a w =
         let count : x.count ≡ (grid_of f).sections = accepted.count in
@@ -119,7 +119,7 @@ module _ (s : List ℕ) (f : Frame) (place : ℕ) (t : TocRead) (o z p i : List 
 
 -- ---- the header
 
-module _ {out' : List ℕ} (s : List ℕ) (facts : Facts) (h : HeaderAnswer) (e : told h ≡ headed s facts) (out : List ℕ) (a : TextAnswer) where
+module _ {out' : List ℕ} (s : List ℕ) (facts : Facts) (h : HeaderAnswer) (e : told h ≡ headed s facts) (out : List ℕ) (a : Result ℕ Refusal) where
   pub header_refused : (h.refusal.number ≡ 0 → ⊥) → Texted (fitted (refused_text h.refusal) out) (refused_text h.refusal) out a out'
       → Texted (fitted (header_text s facts) out) (header_text s facts) out a out'
   unfolding header_text
@@ -140,37 +140,36 @@ take_least k l =
     (λ y. let e : min k (length l) ≡ k = omega (arith, y) in ap (λ (n : ℕ). take n l) e)
     (λ y. take_all (min k (length l)) l (omega (arith, y)) ∙ sym (take_all k l (omega (arith, y))))
 
-pub bytes_text : {out' : List ℕ} (rest : List ℕ) (n : ℕ) (facts : Facts) (out : List ℕ) (a : TextAnswer) → n ≡ min 32768 (length rest)
+pub bytes_text : {out' : List ℕ} (rest : List ℕ) (n : ℕ) (facts : Facts) (out : List ℕ) (a : Result ℕ Refusal) → n ≡ min (length rest) 32768
     → Texted (fitted (header_text (take n rest) facts) out) (header_text (take n rest) facts) out a out'
     → Texted (fitted (header_text (take 32768 rest) facts) out) (header_text (take 32768 rest) facts) out a out'
 bytes_text rest n facts out a e w =
+    let turned : min (length rest) 32768 ≡ min 32768 (length rest) = omega arith in
     line_is (header_text (take n rest) facts) (header_text (take 32768 rest) facts) out a
-    (ap (λ (l : List ℕ). header_text l facts) (ap (λ (k : ℕ). take k rest) e ∙ take_least 32768 rest)) w
+    (ap (λ (l : List ℕ). header_text l facts) (ap (λ (k : ℕ). take k rest) (e ∙ turned) ∙ take_least 32768 rest)) w
 
 -- ---- the line
 
-module _ {out' : List ℕ} (s : List ℕ) (r : FactsLine) (l : Lined s r) (out : List ℕ) (a : TextAnswer) where
-  pub job_bad : (q : Refusal) → not r.good ≡ true → q ≡ refusal 1 0 → Texted (fitted (refused_text q) out) (refused_text q) out a out'
+module _ {out' : List ℕ} (s : List ℕ) (out : List ℕ) (a : Result ℕ Refusal) where
+  pub job_bad : good_line s ≡ false → (q : Refusal) → q ≡ refusal 1 0 → Texted (fitted (refused_text q) out) (refused_text q) out a out'
       → Texted (fitted (job_text s) out) (job_text s) out a out'
   unfolding job_text
-  job_bad q h e w =
-      line_is (refused_text q) (job_text s) out a
-      (ap refused_text e ∙ sym (rw (← l.good, not-true r.good h))) w
+  job_bad h q e w = line_is (refused_text q) (job_text s) out a (ap refused_text e ∙ sym (rw h)) w
 
-  pub job_good : not r.good ≡ false
+  pub job_good : (r : FactsLine) → Lined s r
       → Texted (fitted (header_text (take 32768 (take (length s - r.next) (drop r.next s))) r.facts) out) (header_text (take 32768 (take (length s - r.next) (drop r.next s))) r.facts) out a out'
       → Texted (fitted (job_text s) out) (job_text s) out a out'
   unfolding job_text
-  job_good h w =
+  job_good r l w =
       let all : take (length s - r.next) (drop r.next s) ≡ frame_bytes s = take_all (length s - r.next) (drop r.next s) (omega (arith, length-drop r.next s)) ∙ l.rest in
       line_is (header_text (take 32768 (take (length s - r.next) (drop r.next s))) r.facts) (job_text s) out a
-      (ap (λ (b : List ℕ). header_text (take 32768 b) r.facts) all ∙ ap (λ (y : Facts). header_text (take 32768 (frame_bytes s)) y) l.facts ∙ sym (rw (← l.good, not-false r.good h))) w
+      (ap (λ (b : List ℕ). header_text (take 32768 b) r.facts) all ∙ ap (λ (y : Facts). header_text (take 32768 (frame_bytes s)) y) l.facts ∙ sym (rw l.good)) w
 
 -- the first words of an order
-pub table_text : {out' : List ℕ} (f : Frame) (offsets sizes order : List ℕ) (k n : ℕ) (out : List ℕ) (a : TextAnswer) → n ≡ k
+pub table_text : {out' : List ℕ} (f : Frame) (offsets sizes order : List ℕ) (k n : ℕ) (out : List ℕ) (a : Result ℕ Refusal) → n ≡ k
     → Texted (listing_refusal f offsets sizes (take n order) out) (listing f offsets sizes (take n order)) out a out'
     → Texted (listing_refusal f offsets sizes (take k order) out) (listing f offsets sizes (take k order)) out a out'
 table_text f offsets sizes order k n out a e w = rw (← e) w
 
-pub least_long : (a n : ℕ) (l : List ℕ) → n ≡ min a (length l) → n ≡ length (take n l)
+pub least_long : (a n : ℕ) (l : List ℕ) → n ≡ min (length l) a → n ≡ length (take n l)
 least_long a n l e = omega (arith, length-take n l)

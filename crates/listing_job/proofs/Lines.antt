@@ -5,19 +5,20 @@ use native.Mathlib.Decide.{dec_le}
 use native.Mathlib.Numerals.{add-one}
 use mathlib.Core.Path.{◌≡◌, refl, sym, ◌∙◌, ap}
 use mathlib.Core.Logic.{by_cases}
-use mathlib.Core.Bool.{Bool, true, ◌&&◌, and-true, and_assoc}
+use mathlib.Core.Bool.{true, false}
 use mathlib.Core.List.{List, [], ◌∷◌, append-nil}
 use lib.Dec.{ltb}
 use lib.ListN.{length, get_or, set, drop, drop_of_length-le}
 use lib.Seq.{sets, drop-cons, drop-length, sets-eq}
 use borrow.Author.Tests.{lt-ltb, le-ltb}
+use Rattle.std.specs.Prelude.{Some, None}
 use Rattle.bits.specs.Refusals.{pick}
 use Rattle.fill.proofs.Filling.{Filling, filling_none, filling_more, filling_all}
 use Rattle.decimal.specs.declared.Step.{Step}
-use Rattle.decimal.specs.UpTo.{behind, number_at}
-use Rattle.decimal.proofs.Finding.{number_rest, number_within, numbered_small}
+use Rattle.decimal.specs.Decimal.{Parsed, told}
+use Rattle.decimal.specs.UpTo.{behind, numbered, number_at}
+use Rattle.decimal.proofs.Finding.{number_rest, number_within, numbered_small, told_none, told_some}
 use Rattle.header.specs.declared.Facts.{Facts}
-use Rattle.listing_job.specs.declared.facts.LineEnd.{LineEnd}
 use Rattle.listing_job.specs.Line.{limits, facts_from, LineRead, with_first, stop_before, line_read}
 use Rattle.listing_job.specs.Private.{Valued, Lined}
 
@@ -46,47 +47,15 @@ stop_is most k =
     let end : length most ≤ k = omega (arith, y) in
     rw (le-ltb k (length most) end, drop_of_length-le most end))
 
--- the numbers from i on are still to be read, from index at on
-pub record Reads (s most before : List ℕ) (good : Bool) (at : ℕ) (out : List ℕ) (i : ℕ) : Type 0 where
+-- the numbers from i on are still to be read, from index at on; all so far are good
+pub record Reads (s most before : List ℕ) (at : ℕ) (out : List ℕ) (i : ℕ) : Type 0 where
   pub within : at ≤ length s
-  pub all : (line_read most s).good ≡ (good && (line_read (drop i most) (drop at s)).good)
+  pub all : (line_read most s).good ≡ (line_read (drop i most) (drop at s)).good
   pub rest : (line_read most s).rest ≡ (line_read (drop i most) (drop at s)).rest
   pub filling : Filling before 0 (line_read most s).values out i (line_read (drop i most) (drop at s)).values
 
-pub reads_none : (s most before : List ℕ) → Reads s most before true 0 before 0
+pub reads_none : (s most before : List ℕ) → Reads s most before 0 before 0
 reads_none s most before = record { within = omega arith; all = refl; rest = refl; filling = filling_none before 0 (line_read most s).values }
-
-module _ (s most before : List ℕ) (good : Bool) (at : ℕ) (out : List ℕ) (i : ℕ) (w : Reads s most before good at out i) where
-  module _ (h : i < length most) (stop : ℕ) (es : stop ≡ pick (ltb (i + 1) (length most)) 9 10) (n : Step) (en : n ≡ number_at s at stop (get_or most i 0)) where
-    -- the number is the first of those still to be read
-    next : line_read (drop i most) (drop at s) ≡ with_first (record { good = n.good; value = n.value }) (line_read (drop (i + 1) most) (drop n.next s))
-    unfolding line_read number_at
-    next =
-        let is : stop ≡ stop_before (drop (i + 1) most) = es ∙ stop_is most (i + 1) in
-        let rest : drop n.next s ≡ behind stop (drop at s) = rw en (number_rest s at stop (get_or most i 0)) in
-        rw (rest, en, is, add-one i, drop-cons most i 0 h)
-
-    pub reads_more : (g : Bool) (out' : List ℕ) → g ≡ (good && n.good) → out' ≡ set out i n.value → Reads s most before g n.next out' (i + 1)
-    reads_more g out' eg eo =
-        record {
-          within = rw en (number_within s at stop (get_or most i 0) w.within);
-          all = w.all ∙ ap (λ (l : LineRead). good && l.good) next ∙ sym (rw (eg, and_assoc));
-          rest = w.rest ∙ ap (λ (l : LineRead). l.rest) next;
-          filling = filling_more before 0 (line_read most s).values out i n.value (line_read (drop (i + 1) most) (drop n.next s)).values out' (rw next at w.filling) eo;
-        }
-
-  pub reads_all : length most ≤ i → Valued s most before (record { good = good; next = at }) out
-  unfolding line_read
-  reads_all h =
-      let end : drop i most ≡ [] = drop_of_length-le most h in
-      record {
-        good = sym (w.all ∙ rw end (and-true good));
-        values = filling_all before 0 (line_read most s).values out i (rw end at w.filling);
-        rest = sym (w.rest ∙ rw end);
-        within = w.within;
-      }
-
--- ---- the facts
 
 -- values over as many as there were
 sets_whole : (before new : List ℕ) → length before ≡ length new → sets before 0 new ≡ new
@@ -94,12 +63,51 @@ sets_whole before new e =
     let all : 0 + length new ≡ length before = omega arith in
     sets-eq new before 0 (omega arith) ∙ rw (all, drop-length before) (append-nil new)
 
-module _ (s before : List ℕ) (same : length before ≡ length limits) (line : LineEnd) (out : List ℕ) (v : Valued s limits before line out) where
-  values_are : out ≡ (line_read limits s).values
-  values_are = v.values ∙ sets_whole before (line_read limits s).values (same ∙ sym (values_long limits s))
+module _ (s most before : List ℕ) (at : ℕ) (out : List ℕ) (i : ℕ) (w : Reads s most before at out i) where
+  module _ (h : i < length most) (stop : ℕ) (es : stop ≡ pick (ltb (i + 1) (length most)) 9 10) (n : Step) (en : n ≡ number_at s at stop (get_or most i 0)) where
+    is : n.number ≡ told (numbered stop (get_or most i 0) (drop at s))
+    unfolding number_at
+    is = rw en
 
-  pub values_fit : (k : ℕ) → get_or out k 0 ≤ get_or limits k 0
-  values_fit k = rw values_are (values_small limits s k)
+    -- the number is the first of those still to be read
+    next : line_read (drop i most) (drop at s) ≡ with_first (numbered stop (get_or most i 0) (drop at s)) (line_read (drop (i + 1) most) (drop n.next s))
+    unfolding line_read number_at
+    next =
+        let end : stop ≡ stop_before (drop (i + 1) most) = es ∙ stop_is most (i + 1) in
+        let rest : drop n.next s ≡ behind stop (drop at s) = rw en (number_rest s at stop (get_or most i 0)) in
+        rw (rest, end, add-one i, drop-cons most i 0 h)
 
-  pub lined : (facts : Facts) → facts ≡ facts_from out → Lined s (record { good = line.good; facts = facts; next = line.next })
-  lined facts e = record { good = v.good; facts = e ∙ ap facts_from values_are; rest = v.rest; within = v.within }
+    pub reads_bad : n.number ≡ None → (line_read most s).good ≡ false
+    reads_bad e = w.all ∙ ap (λ (l : LineRead). l.good) next ∙ rw (told_none (numbered stop (get_or most i 0) (drop at s)) (sym is ∙ e))
+
+    pub reads_more : (v : ℕ) (out' : List ℕ) → n.number ≡ Some v → out' ≡ set out i v → Reads s most before n.next out' (i + 1)
+    reads_more v out' e eo =
+        let p : Parsed = numbered stop (get_or most i 0) (drop at s) in
+        let some : (p.good ≡ true) × (p.value ≡ v) = told_some p v (sym is ∙ e) in
+        record {
+          within = rw en (number_within s at stop (get_or most i 0) w.within);
+          all = w.all ∙ ap (λ (l : LineRead). l.good) next ∙ rw some.0;
+          rest = w.rest ∙ ap (λ (l : LineRead). l.rest) next;
+          filling = filling_more before 0 (line_read most s).values out i v (line_read (drop (i + 1) most) (drop n.next s)).values out'
+              (rw some.1 at (rw next at w.filling)) eo;
+        }
+
+  pub reads_all : length most ≤ i → length before ≡ length most → Valued s most out at
+  unfolding line_read
+  reads_all h same =
+      let end : drop i most ≡ [] = drop_of_length-le most h in
+      record {
+        good = w.all ∙ rw end;
+        values = filling_all before 0 (line_read most s).values out i (rw end at w.filling) ∙ sets_whole before (line_read most s).values (same ∙ sym (values_long most s));
+        rest = sym (w.rest ∙ rw end);
+        within = w.within;
+      }
+
+-- ---- the facts
+
+module _ (s values : List ℕ) (next : ℕ) (v : Valued s limits values next) where
+  pub values_fit : (k : ℕ) → get_or values k 0 ≤ get_or limits k 0
+  values_fit k = rw v.values (values_small limits s k)
+
+  pub lined : (facts : Facts) → facts ≡ facts_from values → Lined s (record { facts = facts; next = next })
+  lined facts e = record { good = v.good; facts = e ∙ ap facts_from v.values; rest = v.rest; within = v.within }

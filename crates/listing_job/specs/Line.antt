@@ -1,6 +1,6 @@
 -- The facts line: numbers with a tab (9) behind each but the last, and a line feed (10) behind the last.
 use Rattle.std.specs.Prelude.{ℕ, Bool, true, ◌&&◌, List, [], ◌∷◌, eqb, get_or}
-use Rattle.decimal.specs.declared.Parsed.{Parsed}
+use Rattle.decimal.specs.Decimal.{Parsed}
 use Rattle.decimal.specs.UpTo.{behind, numbered}
 use Rattle.header.specs.declared.Facts.{Facts}
 

@@ -1,6 +1,7 @@
 // The facts line: numbers with a tab between two and a line feed behind the last. Its length is that of the list of limits.
-ghost use Rattle.std.specs.Prelude.{◌≡◌, ◌≤◌, ltb};
+ghost use Rattle.std.specs.Prelude.{◌≡◌, ltb, false, IfSome, IfNone};
 ghost use Rattle.bits.specs.Refusals.{pick};
+ghost use Rattle.listing_job.specs.Line.{line_read, good_line};
 ghost use Rattle.listing_job.specs.Private.{Valued, Lined};
 
 use header::Facts;
@@ -8,17 +9,9 @@ use header::Facts;
 // How many numbers the line has.
 const COUNT: usize = 7;
 
-// Whether every number of a line is good, and the index behind the line.
-#[derive(Clone, Copy)]
-struct LineEnd {
-    good: bool,
-    next: usize,
-}
-
-// Whether the line is good, its facts, and the index behind it.
+// The facts of a good line, and the index behind it.
 #[derive(Clone, Copy)]
 pub struct FactsLine {
-    pub good: bool,
     pub facts: Facts,
     pub next: usize,
 }
@@ -27,52 +20,41 @@ pub struct FactsLine {
 fn stop_of(read: usize, count: usize) -> u8
     ensures { result ≡ pick (ltb read count) 9 10 }
 {
-    if read < count { 9 } else { 10 }
+    if read < count { b'\t' } else { b'\n' }
 }
 
-// The numbers of a line by their limits.
-fn read_line(s: &[u8], limits: &[u64], values: &mut [u64]) -> LineEnd
-    ensures { Valued s.now limits.now values.old result values.new }
+// The numbers of a line by their limits, where all are good, and the index behind the line.
+fn read_line(s: &[u8], limits: &[u64; COUNT]) -> Option<([u64; COUNT], usize)>
+    ensures good { IfSome result (λ r. Valued s.now limits.now r.0 r.1) }
+    ensures bad { IfNone result ((line_read limits.now s.now).good ≡ false) }
 {
-    let mut good = true;
+    let mut values = [0u64; COUNT];
     let mut at: usize = 0;
-    let mut i: usize = 0;
-    while i < limits.len() {
-        let n = decimal::number_at(s, at, stop_of(i + 1, limits.len()), limits[i]);
-        good = bits::both(good, n.good);
-        fill::put(values, i, n.value);
+    // A range: tried as `values.iter_mut().zip(limits)`, whose lifetimes get no proof yet.
+    for i in 0..COUNT {
+        let n = decimal::number_at(s, at, stop_of(i + 1, COUNT), limits[i]);
+        values[i] = n.number?;
         at = n.next;
-        i += 1;
     }
-    LineEnd { good, next: at }
-}
-
-fn narrow(n: u64) -> u32
-    requires { n ≤ 4294967295 }
-    ensures { result ≡ n }
-{
-    n as u32
+    Some((values, at))
 }
 
 // Width, height, XYB, grey, extra channels, animation, timecodes: the most that each may be, and what each is.
-pub fn facts_line(s: &[u8]) -> FactsLine
-    ensures { Lined s.now result }
+pub fn facts_line(s: &[u8]) -> Option<FactsLine>
+    ensures good { IfSome result (λ r. Lined s.now r) }
+    ensures bad { IfNone result (good_line s.now ≡ false) }
 {
     let limits: [u64; COUNT] = [4294967295, 4294967295, 1, 1, 4294967295, 1, 1];
-    let mut values = [0u64; COUNT];
-    let line = read_line(s, &limits, &mut values);
+    let (values, next) = read_line(s, &limits)?;
+    let [width, height, xyb, grey, extra, animation, timecodes] = values;
     let facts = Facts {
-        width: narrow(values[0]),
-        height: narrow(values[1]),
-        xyb: values[2] == 1,
-        grey: values[3] == 1,
-        extra: narrow(values[4]),
-        animation: values[5] == 1,
-        timecodes: values[6] == 1,
+        width: width as u32,
+        height: height as u32,
+        xyb: xyb == 1,
+        grey: grey == 1,
+        extra: extra as u32,
+        animation: animation == 1,
+        timecodes: timecodes == 1,
     };
-    FactsLine {
-        good: line.good,
-        facts,
-        next: line.next,
-    }
+    Some(FactsLine { facts, next })
 }

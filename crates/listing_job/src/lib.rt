@@ -12,7 +12,6 @@ use bits::Refusal;
 use facts::facts_line;
 use grid::Frame;
 use header::Facts;
-use listing::TextAnswer;
 use toc::TocRead;
 
 // The listing of a table that was read.
@@ -23,16 +22,16 @@ fn list_table(
     sizes: &[u32],
     order: &[u32],
     out: &mut [u8],
-) -> TextAnswer
+) -> Result<usize, Refusal>
     ensures { Texted (listing_refusal f offsets.now sizes.now (take (min count (length order.now)) order.now) out.old)
         (listing f offsets.now sizes.now (take (min count (length order.now)) order.now)) out.old result out.new }
 {
-    let n = (count as usize).min(order.len());
+    let n = order.len().min(count as usize);
     listing::write_listing(f, offsets, sizes, &order[..n], out)
 }
 
 // From the section table on: four tables of 1,024 words, so that more sections are 3.
-fn list_sections(s: &[u8], f: Frame, place: u64, out: &mut [u8]) -> TextAnswer
+fn list_sections(s: &[u8], f: Frame, place: u64, out: &mut [u8]) -> Result<usize, Refusal>
     ensures { Texted (fitted (sections_text s.now f place) out.old) (sections_text s.now f place) out.old result out.new }
 {
     let mut offsets = [0u64; 1024];
@@ -56,7 +55,7 @@ fn list_sections(s: &[u8], f: Frame, place: u64, out: &mut [u8]) -> TextAnswer
 }
 
 // From the header on.
-fn list_header(s: &[u8], facts: Facts, out: &mut [u8]) -> TextAnswer
+fn list_header(s: &[u8], facts: Facts, out: &mut [u8]) -> Result<usize, Refusal>
     ensures { Texted (fitted (header_text s.now facts) out.old) (header_text s.now facts) out.old result out.new }
 {
     let mut name = [0u8; 1071];
@@ -72,23 +71,20 @@ fn list_header(s: &[u8], facts: Facts, out: &mut [u8]) -> TextAnswer
 }
 
 // The frame's bytes, of which the first 32,768 are used.
-fn list_bytes(rest: &[u8], facts: Facts, out: &mut [u8]) -> TextAnswer
+fn list_bytes(rest: &[u8], facts: Facts, out: &mut [u8]) -> Result<usize, Refusal>
     ensures { Texted (fitted (header_text (take 32768 rest.now) facts) out.old) (header_text (take 32768 rest.now) facts) out.old result out.new }
 {
-    let n = 32768.min(rest.len());
+    let n = rest.len().min(32768);
     list_header(&rest[..n], facts, out)
 }
 
-// The job: a bad line or bad facts are 1, then the header's faults, 9, 10, 3 over 1,024 sections, the flag and the rest. The answer's own
-// refusal is 3 where the text doesn't fit into the lent bytes; what the program refuses of a frame is in the text.
-pub fn list_frame(input: &[u8], out: &mut [u8]) -> TextAnswer
+// The job: a bad line or bad facts are 1, then the header's faults, 9, 10, 3 over 1,024 sections, the flag and the rest. The answer itself
+// is refused with 3 where the text doesn't fit into the lent bytes; what the program refuses of a frame is in the text.
+pub fn list_frame(input: &[u8], out: &mut [u8]) -> Result<usize, Refusal>
     ensures { Texted (fitted (job_text input.now) out.old) (job_text input.now) out.old result out.new }
 {
-    let line = facts_line(input);
-    if !line.good {
+    let Some(line) = facts_line(input) else {
         return listing::write_refused(bits::refused(1, 0), out);
-    }
-    let at = line.next;
-    let facts = line.facts;
-    list_bytes(&input[at..], facts, out)
+    };
+    list_bytes(&input[line.next..], line.facts, out)
 }

@@ -1,19 +1,9 @@
 -- `list_frame`: a bad line, or the frame behind it.
-use native.Mathlib.Omega.{arith}
 use Rattle.listing_job.proofs.Jobs.{job_bad, job_good}
 use Rattle.listing_job.proofs.list_frame.Goals as goal
 
-pub returns-then-not-line : goal.returns-then-not-line
-returns-then-not-line c = job_bad c.args.input.now _ c.facts_line-line.ensures c.args.out.now _ _ c.if-not-line.true c.refused.ensures c.write_refused.ensures
-
-pub slice_bounds-list_bytes-count : goal.slice_bounds-list_bytes-count
-slice_bounds-list_bytes-count c = omega (arith, c.facts_line-line.ensures.within)
-
-pub slice_bounds-list_bytes-start : goal.slice_bounds-list_bytes-start
-slice_bounds-list_bytes-start c = omega (arith, c.facts_line-line.ensures.within)
-
-pub slice_bounds-list_bytes-end : goal.slice_bounds-list_bytes-end
-slice_bounds-list_bytes-end c = omega (arith, c.facts_line-line.ensures.within)
+pub returns-in_default : goal.returns-in_default
+returns-in_default c = job_bad c.args.input.now c.args.out.now _ c.in_default.ensures.bad _ c.refused.ensures c.write_refused.ensures
 
 pub returns : goal.returns
-returns c = job_good c.args.input.now _ c.facts_line-line.ensures c.args.out.now _ c.if-not-line.false c.list_bytes.ensures
+returns c = job_good c.args.input.now c.args.out.now _ c.in-Some.line c.in-Some.ensures.good c.list_bytes.ensures

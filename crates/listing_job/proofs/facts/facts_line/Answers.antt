@@ -1,23 +1,26 @@
 -- `facts_line`: each number is within its limit, and each fact is its number's.
+use native.Mathlib.Omega.{arith}
 use mathlib.Core.Path.{refl}
 use Rattle.listing_job.specs.Line.{limits, facts_from}
 use Rattle.listing_job.proofs.Lines.{values_fit, lined}
 use Rattle.listing_job.proofs.facts.facts_line.Goals as goal
 
-pub narrow-requires : goal.narrow-requires
+pub returns-in_err-values-clause-bad : goal.returns-in_err-values-clause-bad
 unfolding limits
-narrow-requires c = values_fit c.args.s.now _ refl _ _ c.read_line-line.ensures 0
+returns-in_err-values-clause-bad c = rw c.from_residual.ensures c.in_err-values.ensures.bad
 
-pub narrow-requires-2 : goal.narrow-requires-2
+pub overflow_cast-facts : goal.overflow_cast-facts
 unfolding limits
-narrow-requires-2 c = values_fit c.args.s.now _ refl _ _ c.read_line-line.ensures 1
+overflow_cast-facts c = omega (arith, values_fit c.args.s.now _ _ c.in_ok-values.ensures.good 0)
 
-pub narrow-requires-3 : goal.narrow-requires-3
+pub overflow_cast-facts-2 : goal.overflow_cast-facts-2
 unfolding limits
-narrow-requires-3 c = values_fit c.args.s.now _ refl _ _ c.read_line-line.ensures 4
+overflow_cast-facts-2 c = omega (arith, values_fit c.args.s.now _ _ c.in_ok-values.ensures.good 1)
 
-pub returns : goal.returns
+pub overflow_cast-facts-3 : goal.overflow_cast-facts-3
+unfolding limits
+overflow_cast-facts-3 c = omega (arith, values_fit c.args.s.now _ _ c.in_ok-values.ensures.good 4)
+
+pub returns-clause-good : goal.returns-clause-good
 unfolding limits facts_from
-returns c =
-    lined c.args.s.now _ refl _ _ c.read_line-line.ensures _
-    (rw (c.narrow.ensures, c.narrow-2.ensures, c.narrow-3.ensures))
+returns-clause-good c = lined c.args.s.now _ _ c.in_ok-values.ensures.good _ refl
