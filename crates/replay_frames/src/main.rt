@@ -10,7 +10,7 @@ use bits::Refusal;
 use grid::Frame;
 use header::Facts;
 use order::SectionNumber;
-use replay::Output;
+use replay::{Output, WORDS};
 use std::io;
 use std::io::Stdin;
 use toc::TocRead;
@@ -38,8 +38,8 @@ fn main(rt: HostRuntime) -> io::Result<()> {
 fn record(input: &mut Stdin, out: &mut Output, r: &[u8]) -> io::Result<()> {
     let mut given = [0u8; 4096];
     let mut numbers = [0u8; 4096];
-    let n = replay::room_bytes(&given, replay::word(r, 32));
-    let m = replay::room_bytes(&numbers, replay::word(r, 0) % 1025 * 4);
+    let n = replay::room(&given, replay::word(r, 32));
+    let m = replay::room(&numbers, replay::word(r, 0) % 1025 * 4);
     one(input, out, r, &mut given[..n], &mut numbers[..m])
 }
 
@@ -53,24 +53,28 @@ fn one(
     input::read_full(input, s)?;
     input::read_full(input, numbers)?;
     let h = head(out, s, facts(r));
+    tables(out, s, h.frame, h.end, None);
     let m = replay::word(r, 0);
-    tables(out, s, h.frame, h.end, numbers, 0);
     if 0 < m {
-        tables(out, s, h.frame, replay::word(r, 20) as u64, numbers, m);
+        let mut lent: [u32; WORDS] = replay::table(0);
+        replay::put_words(&mut lent, numbers, 0, m);
+        let n = replay::room(&lent, m);
+        let place = u64::from(replay::word(r, 20));
+        tables(out, s, h.frame, place, Some(&lent[..n]));
     }
     Ok(())
 }
 
 fn facts(r: &[u8]) -> Facts {
-    let q = replay::four(r, 4);
+    let [width, height, flags, extra] = replay::four(r, 4);
     Facts {
-        width: q.a,
-        height: q.b,
-        xyb: q.c % 2 == 1,
-        grey: q.c / 2 % 2 == 1,
-        extra: q.d,
-        animation: q.c / 4 % 2 == 1,
-        timecodes: q.c / 8 % 2 == 1,
+        width,
+        height,
+        xyb: flags % 2 == 1,
+        grey: flags / 2 % 2 == 1,
+        extra,
+        animation: flags / 4 % 2 == 1,
+        timecodes: flags / 8 % 2 == 1,
     }
 }
 
@@ -84,109 +88,76 @@ fn head(out: &mut Output, s: &[u8], facts: Facts) -> Beginning {
 }
 
 fn begun(out: &mut Output, refusal: Refusal, end: u64, f: Frame) -> Beginning {
-    replay::refusal(out, refusal);
-    replay::show(out, end);
-    replay::cells(
-        out,
-        &[
-            f.width,
-            f.height,
-            f.upsampling,
-            f.lf_level,
-            f.group_size_shift,
-            f.num_passes,
-        ],
-    );
-    replay::end(out);
+    out.refusal(refusal);
+    out.show(end);
+    out.cells(&[
+        f.width,
+        f.height,
+        f.upsampling,
+        f.lf_level,
+        f.group_size_shift,
+        f.num_passes,
+    ]);
+    out.end();
     Beginning { end, frame: f }
 }
 
-fn tables(out: &mut Output, s: &[u8], f: Frame, place: u64, numbers: &[u8], lent: u32) {
-    let mut offsets = replay::longs(0);
-    let mut sizes = replay::table(0);
-    let mut order = replay::table(0);
-    let mut inverse = replay::table(0);
-    work(
-        out,
-        s,
-        f,
-        place,
-        numbers,
-        lent,
-        &mut offsets,
-        &mut sizes,
-        &mut order,
-        &mut inverse,
-    );
-}
-
-fn work(
-    out: &mut Output,
-    s: &[u8],
-    f: Frame,
-    place: u64,
-    numbers: &[u8],
-    lent: u32,
-    offsets: &mut [u64],
-    sizes: &mut [u32],
-    order: &mut [u32],
-    inverse: &mut [u32],
-) {
-    let t = entry(s, f, place, numbers, lent, offsets, sizes, order, inverse);
-    let count = answered(out, t);
-    let n = replay::room_words(order, count);
-    rows(out, f, count, offsets, sizes, &order[..n]);
-}
-
 // The first entry where no order is lent, else the second.
-fn entry(
-    s: &[u8],
-    f: Frame,
-    place: u64,
-    numbers: &[u8],
-    lent: u32,
-    offsets: &mut [u64],
-    sizes: &mut [u32],
-    order: &mut [u32],
-    inverse: &mut [u32],
-) -> TocRead {
-    if lent == 0 {
-        return toc::read_toc(s, f, place, offsets, sizes, order, inverse);
+fn tables(out: &mut Output, s: &[u8], f: Frame, place: u64, lent: Option<&[u32]>) {
+    let mut offsets: [u64; WORDS] = replay::table(0);
+    let mut sizes: [u32; WORDS] = replay::table(0);
+    let mut order: [u32; WORDS] = replay::table(0);
+    let mut inverse: [u32; WORDS] = replay::table(0);
+    let t = match lent {
+        None => toc::read_toc(
+            s,
+            f,
+            place,
+            &mut offsets,
+            &mut sizes,
+            &mut order,
+            &mut inverse,
+        ),
+        Some(lent) => toc::read_toc_with_order(
+            s,
+            f,
+            place,
+            lent,
+            &mut offsets,
+            &mut sizes,
+            &mut order,
+            &mut inverse,
+        ),
+    };
+    let count = answered(out, t);
+    let n = replay::room(&order, count);
+    for i in 0..count {
+        row(out, f, SectionNumber(i), &offsets, &sizes, &order[..n]);
     }
-    let mut given = replay::table(0);
-    replay::put_words(&mut given, numbers, 0, lent);
-    let m = replay::room_words(&given, lent);
-    toc::read_toc_with_order(s, f, place, &given[..m], offsets, sizes, order, inverse)
 }
 
 // 0, the count, the data start and the total; or 1 and the place; or 2, the refusal and its place. How many sections there are to show.
 fn answered(out: &mut Output, t: TocRead) -> u32 {
     let count = match t {
         TocRead::Table(x) => {
-            replay::cells(out, &[0, x.count]);
-            replay::show(out, x.bookmark);
-            replay::show(out, x.total_byte_size);
+            out.cells(&[0, x.count]);
+            out.show(x.bookmark);
+            out.show(x.total_byte_size);
             x.count
         }
         TocRead::OrderNeeded(p) => {
-            replay::show(out, 1);
-            replay::show(out, p);
+            out.show(1);
+            out.show(p);
             0
         }
         TocRead::Refused(e) => {
-            replay::show(out, 2);
-            replay::refusal(out, e);
+            out.show(2);
+            out.refusal(e);
             0
         }
     };
-    replay::end(out);
+    out.end();
     count
-}
-
-fn rows(out: &mut Output, f: Frame, count: u32, offsets: &[u64], sizes: &[u32], order: &[u32]) {
-    for i in 0..count {
-        row(out, f, SectionNumber(i), offsets, sizes, order);
-    }
 }
 
 fn row(
@@ -202,8 +173,8 @@ fn row(
     let k = sections::kind_numbers(kind);
     let t = sections::sent_of_section(f, order, n);
     let p = sections::section_at(f, offsets, sizes, n);
-    replay::cells(out, &[k.kind, k.pass_idx, k.group_idx, t.sent.0]);
-    replay::show(out, p.offset);
-    replay::show(out, p.size as u64);
-    replay::end(out);
+    out.cells(&[k.kind, k.pass_idx, k.group_idx, t.sent.0]);
+    out.show(p.offset);
+    out.show(u64::from(p.size));
+    out.end();
 }
