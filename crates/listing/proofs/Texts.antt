@@ -14,8 +14,7 @@ use Rattle.std.specs.Prelude.{Result, Ok, Err}
 use Rattle.bits.specs.declared.Refusal.{Refusal}
 use Rattle.bits.specs.Refusals.{pick, refusal, none}
 use Rattle.grid.specs.declared.Frame.{Frame}
-use Rattle.grid.specs.declared.Grid.{Grid}
-use Rattle.grid.specs.Measured.{grid_of}
+use Rattle.grid.specs.Measured.{Measured, grid_of}
 use Rattle.order.specs.Order.{checked, is_order}
 use Rattle.order.specs.Sums.{sum_to}
 use Rattle.listing.specs.Put.{Texted, fitted, answer_by}
@@ -75,7 +74,7 @@ unfolding listing_text
 listing_put count f offsets sizes order total p q e r = then p (then q.0 (named (ap total_text e) r))
 
 -- the ways out of the listing
-module _ (f : Frame) (g : Grid) (m : g ≡ grid_of f) (offsets sizes order out : List ℕ) where
+module _ (f : Frame) (g : Measured) (m : g ≡ grid_of f) (offsets sizes order out : List ℕ) where
   abbrev Listed : Result ℕ Refusal → List ℕ → Type 0
   Listed a after = Texted (listing_refusal f offsets sizes order out) (listing f offsets sizes order) out a after
 
@@ -112,7 +111,7 @@ module _ (f : Frame) (g : Grid) (m : g ≡ grid_of f) (offsets sizes order out :
       pub write_all : {out' : List ℕ} {k : ℕ} → q.number ≡ 0 → Put out 0 (listing_text g.sections f offsets sizes order) out' k → Listed (Ok k) out'
       write_all y w =
           let clear : q ≡ none = e ∙ checked_none g.sections order (sym (ap (λ (x : Refusal). x.number) e) ∙ y) in
-          texted_yes _ (listing f offsets sizes order) out (sym clear ∙ is) (named (ap (λ (x : Grid). listing_text x.sections f offsets sizes order) m) w)
+          texted_yes _ (listing f offsets sizes order) out (sym clear ∙ is) (named (ap (λ (x : Measured). listing_text x.sections f offsets sizes order) m) w)
 
 -- a text that was written lies within the lent bytes
 put_size : (b : Bool) (text out : List ℕ) → length (pick b (sets out 0 text) out) ≡ length out

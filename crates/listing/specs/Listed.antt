@@ -3,7 +3,7 @@ use Rattle.std.specs.Prelude.{ℕ, ◌&&◌, List, ◌++◌, eqb, leb, ltb, leng
 use Rattle.bits.specs.declared.Refusal.{Refusal}
 use Rattle.bits.specs.Refusals.{pick, refusal}
 use Rattle.grid.specs.declared.Frame.{Frame}
-use Rattle.grid.specs.declared.Grid.{Grid}
+use Rattle.grid.specs.Measured.{Measured}
 use Rattle.grid.specs.declared.Rect.{Rect}
 use Rattle.grid.specs.Measured.{grid_of}
 use Rattle.grid.specs.Groups.{judge, rect_for}
@@ -16,7 +16,7 @@ use Rattle.listing.specs.declared.rows.Row.{Row}
 use Rattle.listing.specs.Text.{heading, rows_from, total_text}
 
 -- an LF group's rectangle or a group's, clipped; All has the whole colour sample size; the others have none
-unfoldable pub rect_by : Grid → TocGroupKind → Option Rect
+unfoldable pub rect_by : Measured → TocGroupKind → Option Rect
 rect_by g All = Some (record { left = 0; top = 0; width = g.width; height = g.height })
 rect_by g LfGlobal = None
 rect_by g (LfGroup i) = Some (rect_for g g.lf_side i).rect

@@ -92,20 +92,13 @@ pub fn write_listing(
     ensures { Texted (listing_refusal f offsets.now sizes.now order.now out.old)
         (listing f offsets.now sizes.now order.now) out.old result out.new }
 {
-    let g = grid::measure(f);
-    let own = g.refusal;
-    if own.number != 0 {
-        return Err(own);
-    }
+    let g = grid::measure(f)?;
     let n = g.sections as usize;
     let mut nowhere = [0u8; 1];
     let length = put_listing(&mut nowhere, f, g.sections, offsets, sizes, order);
     if offsets.len() < n || sizes.len() < n || out.len() < length {
         return Err(bits::refused(3, 0));
     }
-    let bad = order::check_order(order, g.sections);
-    if bad.number != 0 {
-        return Err(bad);
-    }
+    order::check_order(order, g.sections)?;
     Ok(put_listing(out, f, g.sections, offsets, sizes, order))
 }

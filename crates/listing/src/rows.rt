@@ -29,17 +29,23 @@ fn word<T: Copy>(t: &[T], i: u32, past: T) -> T
     t.get(i as usize).copied().unwrap_or(past)
 }
 
+// The rectangle where the frame has none.
+const EMPTY: Rect = Rect {
+    left: 0,
+    top: 0,
+    width: 0,
+    height: 0,
+};
+
 // The whole colour sample size.
 fn whole(f: Frame) -> Rect
     ensures { result ≡ record { left = 0; top = 0; width = (grid_of f).width; height = (grid_of f).height } }
 {
-    let width = grid::color_sample_width(f);
-    let height = grid::color_sample_height(f);
     Rect {
         left: 0,
         top: 0,
-        width: width.value,
-        height: height.value,
+        width: grid::color_sample_width(f).unwrap_or(0),
+        height: grid::color_sample_height(f).unwrap_or(0),
     }
 }
 
@@ -50,8 +56,10 @@ fn rect_of(f: Frame, kind: TocGroupKind) -> Option<Rect>
 {
     match kind {
         TocGroupKind::All => Some(whole(f)),
-        TocGroupKind::LfGroup(i) => Some(grid::lf_group_rect(f, i).rect),
-        TocGroupKind::GroupPass { group_idx, .. } => Some(grid::group_rect(f, group_idx).rect),
+        TocGroupKind::LfGroup(i) => Some(grid::lf_group_rect(f, i).unwrap_or(EMPTY)),
+        TocGroupKind::GroupPass { group_idx, .. } => {
+            Some(grid::group_rect(f, group_idx).unwrap_or(EMPTY))
+        }
         TocGroupKind::LfGlobal | TocGroupKind::HfGlobal => None,
     }
 }
@@ -60,7 +68,7 @@ fn rect_of(f: Frame, kind: TocGroupKind) -> Option<Rect>
 pub fn row_at(f: Frame, offsets: &[u64], sizes: &[u32], order: &[u32], i: u32) -> Row
     ensures { result ≡ row_at f offsets.now sizes.now order.now i }
 {
-    let kind = sections::kind_of(f, SectionNumber(i)).kind;
+    let kind = sections::kind_of(f, SectionNumber(i)).unwrap_or(TocGroupKind::All);
     Row {
         section: i,
         kind,

@@ -1,5 +1,6 @@
 -- The C functions: the status word holds the refusal whole, 3 among its numbers where a lent slice is too short, and a refusal leaves the lent
 -- slices as they were.
+use Rattle.order.specs.Numbers.{SectionAnswer}
 use Prim.Native.Nat.{ℕ, ◌+◌, ◌*◌, ◌/◌, ◌%◌, ◌^◌, ◌≤◌, ◌<◌}
 use native.Mathlib.Nat.{mod-eq_of_lt}
 use native.Mathlib.Omega.{arith}
@@ -24,7 +25,6 @@ use Rattle.grid.specs.Groups.{judge, sampled, rect_for, lf_index_of, index_for, 
 use Rattle.header.specs.declared.Facts.{Facts}
 use Rattle.header.specs.Blending.{words}
 use Rattle.header.specs.Entry.{bad_facts, judged, stands, HeaderTold, answered}
-use Rattle.order.specs.declared.SectionAnswer.{SectionAnswer}
 use Rattle.order.proofs.Entries.{split}
 use Rattle.sections.specs.Kinds.{section_of_kind, kind_of}
 use Rattle.sections.specs.Kinds as kinds

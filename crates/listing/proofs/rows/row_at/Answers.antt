@@ -1,4 +1,5 @@
 -- `row_at`: the kind is told whole by its numbers.
+use Rattle.std.proofs.Common.{◌∙◌}
 use Rattle.listing.specs.Listed.{row_at}
 use Rattle.listing.proofs.Showing.{kind_is}
 use Rattle.listing.proofs.rows.row_at.Goals as goal
@@ -6,5 +7,5 @@ use Rattle.listing.proofs.rows.row_at.Goals as goal
 pub returns : goal.returns
 unfolding row_at
 returns c =
-    let kind = kind_is c.args.f c.args.i c.kind_of-kind.result c.kind_of-kind.ensures in
+    let kind = c.unwrap_or-kind.ensures ∙ kind_is c.args.f c.args.i c.kind_of.result c.kind_of.ensures in
     rw (c.rect_of.ensures, kind, c.word.ensures, c.word-2.ensures, c.word-3.ensures)
