@@ -2,7 +2,7 @@
 // are and leaves a number of 52 bits.
 ghost use Rattle.std.specs.Prelude.{◌≡◌, ℕ};
 ghost use Rattle.replay.specs.Outputs.{shown_by, Gains};
-ghost use Rattle.replay.specs.Sums.{mixed, pattern, tallied};
+ghost use Rattle.replay.specs.Sums.{mixed, pattern, summed_by, tallied};
 
 use crate::lines::Output;
 use std::io::Write;
@@ -67,6 +67,18 @@ fn mix(big: bool, sum: u64, n: u64) -> u64
     }
 }
 
+// The numbers of some things into a sum, one after the other.
+#[tactic(auto, using(crate::proofs::Walks::summed_more, crate::proofs::Walks::summed_last))]
+pub fn sum<T: Summand>(big: bool, sum: u64, xs: &[T]) -> u64
+    ensures { result ≡ summed_by T.number_of big sum xs.now }
+{
+    let mut all = sum;
+    for x in xs {
+        all = mix(big, all, x.number());
+    }
+    all
+}
+
 // A sum in the making: whether it is the big one, whether each number is shown too, and what it has come to.
 #[derive(Clone, Copy)]
 pub struct Tally {
@@ -76,14 +88,11 @@ pub struct Tally {
 }
 
 impl Tally {
-    // The numbers of some things, one after the other.
-    #[tactic(auto, using(crate::proofs::Walks::summed_more, crate::proofs::Walks::summed_last))]
+    // The numbers of some things too.
     pub fn add<T: Summand>(&mut self, xs: &[T])
         ensures { self.new ≡ tallied T.number_of self.old xs.now }
     {
-        for x in xs {
-            self.sum = mix(self.big, self.sum, x.number());
-        }
+        self.sum = sum(self.big, self.sum, xs);
     }
 
     // The same, and each number is shown where all are.

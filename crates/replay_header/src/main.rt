@@ -9,7 +9,7 @@
 mod shown;
 
 use header::Facts;
-use replay::{Output, Summand, Tally};
+use replay::Output;
 use std::io;
 use std::io::Stdin;
 
@@ -63,20 +63,10 @@ fn one(out: &mut Output, r: &[u8], s: &[u8]) {
             &mut blending[..c],
         ),
     );
-    out.show(all(&name));
-    out.show(all(&upsampling));
-    out.decimal(all(&blending));
+    out.show(replay::sum(true, 0, &name));
+    out.show(replay::sum(true, 0, &upsampling));
+    out.decimal(replay::sum(true, 0, &blending));
     out.end();
-}
-
-fn all<T: Summand>(xs: &[T]) -> u64 {
-    let mut all = Tally {
-        big: true,
-        full: false,
-        sum: 0,
-    };
-    all.add(xs);
-    all.sum
 }
 
 fn facts(r: &[u8]) -> Facts {

@@ -4,7 +4,7 @@
 // were 7, and then the text.
 #![tactic(auto)]
 
-use replay::{BYTES, Output, Tally};
+use replay::{BYTES, Output};
 use std::io;
 use std::io::Stdin;
 
@@ -38,13 +38,7 @@ fn work(lines: &mut Output, s: &[u8], out: &mut [u8]) {
     lines.show(a.length as u64);
     lines.refusal(a.refusal);
     let (text, behind) = out.split_at(a.length.min(out.len()));
-    let mut rest = Tally {
-        big: false,
-        full: false,
-        sum: 0,
-    };
-    rest.add(behind);
-    lines.show(rest.sum);
+    lines.show(replay::sum(false, 0, behind));
     lines.end();
     lines.text(text);
 }

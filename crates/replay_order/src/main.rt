@@ -3,7 +3,7 @@
 // length, a number, and ten words.
 #![tactic(auto)]
 
-use replay::{Output, Tally, WORDS};
+use replay::{Output, WORDS};
 use std::io;
 
 fn main(rt: HostRuntime) -> io::Result<()> {
@@ -57,13 +57,7 @@ fn answers(out: &mut Output, entries: &[u32], count: u32, number: u32, table: &m
 
 // All of the table in one number, then its first eight words.
 fn show(out: &mut Output, t: &[u32]) {
-    let mut all = Tally {
-        big: false,
-        full: false,
-        sum: 0,
-    };
-    all.add(t);
-    out.decimal(all.sum);
+    out.decimal(replay::sum(false, 0, t));
     for x in t.iter().take(8) {
         out.text(b"\t");
         out.decimal(u64::from(*x));

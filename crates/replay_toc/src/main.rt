@@ -7,7 +7,7 @@
 
 use grid::Frame;
 use order::{SectionAnswer, SectionNumber, SentNumber};
-use replay::{BYTES, Output, Summand, Tally, WORDS};
+use replay::{BYTES, Output, WORDS};
 use sections::TocGroupKind;
 use std::io;
 use toc::TocRead;
@@ -80,22 +80,12 @@ fn with_tables(out: &mut Output, r: &[u8], s: &[u8], lent: &[u32]) {
         _ => toc::read_toc_with_order(s, f, place, lent, offsets, sizes, order, inverse),
     };
     show(out, t);
-    out.show(all(offsets));
-    out.show(all(sizes));
-    out.show(all(order));
-    out.show(all(inverse));
+    out.show(replay::sum(false, 0, offsets));
+    out.show(replay::sum(false, 0, sizes));
+    out.show(replay::sum(false, 0, order));
+    out.show(replay::sum(false, 0, inverse));
     find(out, r, f);
     look(out, f, replay::word(r, 72), offsets, sizes, order, inverse);
-}
-
-fn all<T: Summand>(xs: &[T]) -> u64 {
-    let mut all = Tally {
-        big: false,
-        full: false,
-        sum: 0,
-    };
-    all.add(xs);
-    all.sum
 }
 
 // 0, the count, the data start and the total; or 1 and the place; or 2, the refusal and its place.
