@@ -1,27 +1,29 @@
 -- The header's record as words, and what is refused for want of room.
 use Prim.Native.Nat.{ℕ, ◌<◌}
+use native.Mathlib.Omega.{arith}
 use mathlib.Core.Path.{◌≡◌, refl, ◌∙◌}
 use mathlib.Core.Bool.{Bool, true, false, ◌&&◌}
 use mathlib.Core.List.{List, [], ◌∷◌}
 use lib.Dec.{leb, ltb, eqb}
+use Rattle.std.specs.Prelude.{Result, Ok, Err}
+use Rattle.std.specs.Result.{is_ok}
 use lib.Ieee.{Float}
 use lib.IntN.{ℤ}
 use lib.ListN.{set}
 use lib.Seq.{sets}
-use borrow.Author.Tests.{eq-eqb, ne_eqb, lt-ltb}
+use borrow.Author.Tests.{lt-ltb}
 use Rattle.bits.specs.declared.Read.{Read}
 use Rattle.bits.specs.declared.Refusal.{Refusal}
-use Rattle.bits.specs.Refusals.{pick, refusal}
+use Rattle.bits.specs.Refusals.{pick, refusal, answered as or_refused}
 use Rattle.header.specs.declared.Facts.{Facts}
 use Rattle.header.specs.declared.FrameHeader.{FrameHeader}
-use Rattle.header.specs.declared.entry.HeaderAnswer.{HeaderAnswer}
+use Rattle.header.specs.declared.entry.HeaderRead.{HeaderRead}
 use Rattle.header.specs.Header.{Header}
 use Rattle.header.specs.Record.{numbers_of}
 use Rattle.types.specs.Types.{frame_type_number, encoding_number, blend_mode_number}
 use Rattle.header.specs.Entry.{bad_facts, judged, told, answered, refused_header}
-use Rattle.c_words.specs.Status.{status_of}
 use Rattle.c_words.specs.Records.{bit}
-use Rattle.c_words.specs.Heading.{front_words, back_words, front_after, arrays_after, words_after, signed_after, floats_after, HandedOut, record_room, no_record}
+use Rattle.c_words.specs.Heading.{front_words, back_words, front_after, arrays_after, words_after, signed_after, HandedOut, HandedBy, record_room, no_record}
 
 pub front_is : (h : FrameHeader) (k e y : ℕ) → k ≡ frame_type_number h.frame_type → e ≡ encoding_number h.encoding → y ≡ bit h.do_ycbcr
     → ◌≡◌ {A = List ℕ}
@@ -40,8 +42,8 @@ pub back_is : (h : FrameHeader) (c m l s r b g e : ℕ) → c ≡ bit h.have_cro
 unfolding back_words
 back_is h c m l s r b g e ec em el es er eb eg ee = rw (ec, em, el, es, er, eb, eg, ee)
 
-pub front_put : (a : HeaderAnswer) (front o o0 o1 o2 : List ℕ) → front ≡ front_words (numbers_of a.header) → o0 ≡ set o 0 a.end → o1 ≡ set o0 1 a.header.flags.0
-    → o2 ≡ sets o1 2 front → o2 ≡ front_after (told a) o
+pub front_put : (a : HeaderRead) (front o o0 o1 o2 : List ℕ) → front ≡ front_words (numbers_of a.header) → o0 ≡ set o 0 a.end → o1 ≡ set o0 1 a.header.flags.0
+    → o2 ≡ sets o1 2 front → o2 ≡ front_after (told (Ok a)) o
 unfolding front_after
 front_put a front o o0 o1 o2 ef e0 e1 e2 = rw (e2, e1, e0, ef)
 
@@ -50,8 +52,8 @@ pub four_put : {A : Type 0} (i j k l : ℕ) (a b c d o o0 o1 o2 o3 : List A) →
     → o3 ≡ sets (sets (sets (sets o i a) j b) k c) l d
 four_put i j k l a b c d o o0 o1 o2 o3 e0 e1 e2 e3 = rw (e3, e2, e1, e0)
 
-pub words_put : (a : HeaderAnswer) (back o o0 o12 o33 : List ℕ) → back ≡ back_words (numbers_of a.header) → o0 ≡ front_after (told a) o → o12 ≡ arrays_after a.header.jpeg_upsampling a.header.passes o0
-    → o33 ≡ sets o12 33 back → o33 ≡ words_after (told a) o
+pub words_put : (a : HeaderRead) (back o o0 o12 o33 : List ℕ) → back ≡ back_words (numbers_of a.header) → o0 ≡ front_after (told (Ok a)) o → o12 ≡ arrays_after a.header.jpeg_upsampling a.header.passes o0
+    → o33 ≡ sets o12 33 back → o33 ≡ words_after (told (Ok a)) o
 unfolding words_after
 words_put a back o o0 o12 o33 eb e0 e12 e33 = rw (e33, e12, e0, eb)
 
@@ -61,19 +63,11 @@ signed_are h x y o o0 o1 ex ey e0 e1 = e1 ∙ rw (e0, ex, ey)
 pub room_is : (w s f : ℕ) (a b : Bool) → a ≡ (leb 2 s && leb 22 f) → b ≡ (leb 51 w && a) → b ≡ record_room w s f
 room_is w s f a b ea eb = eb ∙ rw ea
 
--- the record's slices, refused or not
-module _ (a : HeaderAnswer) (word : ℕ) (ew : word ≡ status_of a.refusal) (words : List ℕ) (signed : List ℤ) (floats : List Float) where
-  pub handed_none : (a.refusal.number ≡ 0 → ⊥) → HandedOut (told a) word words words signed signed floats floats
-  handed_none h =
-      let no : eqb a.refusal.number 0 ≡ false = ne_eqb a.refusal.number 0 h in
-      record { status = ew; numbers = rw no; signs = rw no; reals = rw no }
-
-  pub handed_all : a.refusal.number ≡ 0 → (words' : List ℕ) (signed' : List ℤ) (floats' : List Float) → words' ≡ words_after (told a) words
-      → signed' ≡ signed_after (numbers_of a.header) signed → floats' ≡ floats_after a.header.restoration_filter floats
-      → HandedOut (told a) word words words' signed signed' floats floats'
-  handed_all h words' signed' floats' e1 e2 e3 =
-      let yes : eqb a.refusal.number 0 ≡ true = eq-eqb a.refusal.number 0 h in
-      record { status = ew; numbers = e1 ∙ rw yes; signs = e2 ∙ rw yes; reals = e3 ∙ rw yes }
+-- the record's slices, where its entry says by the answer whether something was refused
+pub handed : (a : Result HeaderRead Refusal) (word : ℕ) (words words' : List ℕ) (signed signed' : List ℤ) (floats floats' : List Float)
+    → is_ok a ≡ eqb (told a).refusal.number 0 → HandedBy a word words words' signed signed' floats floats' → HandedOut (told a) word words words' signed signed' floats floats'
+handed a word words words' signed signed' floats floats' e h =
+    record { status = h.status; numbers = h.numbers ∙ rw e; signs = h.signs ∙ rw e; reals = h.reals ∙ rw e }
 
 -- what is refused before anything is read stays so
 pub refused_by : (f : Facts) (r : Refusal) (h : Read Header) → eqb r.number 0 ≡ false → answered f r h ≡ refused_header r
@@ -94,3 +88,10 @@ not_none n f = number (ltb 16777216 n) (bad_facts f)
 pub short_name : (n : ℕ) (f : Facts) (name upsampling blending : ℕ) → name < 1071 → judged n f name upsampling blending ≡ no_record n f
 unfolding judged no_record
 short_name n f name upsampling blending h = rw (lt-ltb name 1071 h)
+
+-- so the judge refuses it
+pub no_name : {A : Type 0} (n : ℕ) (f : Facts) (a : A) → ◌≡◌ {A = Result A Refusal} (or_refused (judged n f 0 0 0) a) (Err (no_record n f))
+no_name n f a = rw (short_name n f 0 0 0 (omega arith), not_none n f)
+
+pub refused_is : {A : Type 0} (x y : Refusal) → ◌≡◌ {A = Result A Refusal} (Err x) (Err y) → x ≡ y
+refused_is x y e = cc

@@ -2,66 +2,21 @@
 ghost use Rattle.std.specs.Prelude.{◌≡◌, length};
 ghost use Rattle.header.specs.Entry.{told};
 ghost use Rattle.header.specs.Record.{numbers_of};
-ghost use Rattle.types.specs.Types.{frame_type_number, encoding_number, blend_mode_number};
-ghost use Rattle.c_words.specs.Records.{bit};
-ghost use Rattle.c_words.specs.Heading.{record_room, front_words, back_words, front_after, arrays_after, words_after, signed_after, floats_after, no_record, HandedOut};
+ghost use Rattle.c_words.specs.Heading.{record_room, front_words, back_words, front_after, arrays_after, words_after, signed_after, floats_after, no_record, HandedBy};
 
 use crate::answers::status;
-use bits::Refusal;
+use bits::{Refusal, accepted};
 use filter::RestorationFilter;
-use header::{Facts, FrameHeader, HeaderAnswer, Passes};
-use types::{BlendMode, Encoding, FrameType};
-
-// The numbers of the enums' cases.
-fn frame_type_number(k: FrameType) -> u32
-    ensures { result ≡ frame_type_number k }
-{
-    match k {
-        FrameType::RegularFrame => 0,
-        FrameType::LfFrame => 1,
-        FrameType::ReferenceOnly => 2,
-        FrameType::SkipProgressive => 3,
-    }
-}
-
-fn encoding_number(e: Encoding) -> u32
-    ensures { result ≡ encoding_number e }
-{
-    match e {
-        Encoding::VarDct => 0,
-        Encoding::Modular => 1,
-    }
-}
-
-fn blend_mode_number(m: BlendMode) -> u32
-    ensures { result ≡ blend_mode_number m }
-{
-    match m {
-        BlendMode::Replace => 0,
-        BlendMode::Add => 1,
-        BlendMode::Blend => 2,
-        BlendMode::MulAdd => 3,
-        BlendMode::Mul => 4,
-    }
-}
-
-// A Bool as a number.
-fn bit(b: bool) -> u32
-    ensures { result ≡ bit b }
-{
-    if b { 1 } else { 0 }
-}
+use header::{Facts, FrameHeader, HeaderRead, Passes};
 
 // Words 2 to 11.
 fn front_words(h: FrameHeader) -> [u32; 10]
     ensures { result ≡ front_words (numbers_of h) }
 {
     let passes = h.passes;
-    let frame_type = h.frame_type;
-    let encoding = h.encoding;
-    let kind = frame_type_number(frame_type);
-    let coded = encoding_number(encoding);
-    let ycbcr = bit(h.do_ycbcr);
+    let kind = u32::from(h.frame_type);
+    let coded = u32::from(h.encoding);
+    let ycbcr = u32::from(h.do_ycbcr);
     [
         kind,
         coded,
@@ -84,15 +39,14 @@ fn back_words(h: FrameHeader) -> [u32; 18]
     let filter = h.restoration_filter;
     let gab = filter.gab;
     let epf = filter.epf;
-    let crop = bit(h.have_crop);
-    let blend = info.mode;
-    let mode = blend_mode_number(blend);
-    let clamp = bit(info.clamp);
-    let last = bit(h.is_last);
-    let resets = bit(h.resets_canvas);
-    let before = bit(h.save_before_ct);
-    let gabor = bit(gab.enabled);
-    let edges = bit(epf.enabled);
+    let crop = u32::from(h.have_crop);
+    let mode = u32::from(info.mode);
+    let clamp = u32::from(info.clamp);
+    let last = u32::from(h.is_last);
+    let resets = u32::from(h.resets_canvas);
+    let before = u32::from(h.save_before_ct);
+    let gabor = u32::from(gab.enabled);
+    let edges = u32::from(epf.enabled);
     [
         h.lf_level,
         crop,
@@ -116,8 +70,8 @@ fn back_words(h: FrameHeader) -> [u32; 18]
 }
 
 // Words 0 to 11: the end and the flags, then numbers.
-fn give_front(a: HeaderAnswer, out: &mut [u64])
-    ensures { out.new ≡ front_after (told a) out.old }
+fn give_front(a: HeaderRead, out: &mut [u64])
+    ensures { out.new ≡ front_after (told (Ok a)) out.old }
 {
     let h = a.header;
     let flags = h.flags;
@@ -141,8 +95,8 @@ fn give_arrays(jpeg: [u32; 3], passes: Passes, out: &mut [u64])
 }
 
 // The record's words, all 51.
-fn give_words(a: HeaderAnswer, out: &mut [u64])
-    ensures { out.new ≡ words_after (told a) out.old }
+fn give_words(a: HeaderRead, out: &mut [u64])
+    ensures { out.new ≡ words_after (told (Ok a)) out.old }
 {
     let h = a.header;
     let jpeg = h.jpeg_upsampling;
@@ -195,26 +149,26 @@ fn give_signed(h: FrameHeader, out: &mut [i32])
 pub fn no_record(s: &[u8], f: Facts) -> Refusal
     ensures { result ≡ no_record (length s.now) f }
 {
-    header::judge_header(s.len(), f, 0, 0, 0)
+    header::judge_header(s.len(), f, 0, 0, 0).unwrap_err()
 }
 
 // The record, unless it is refused.
 pub fn give_record(
-    a: HeaderAnswer,
+    a: Result<HeaderRead, Refusal>,
     words: &mut [u64],
     signed: &mut [i32],
     floats: &mut [f32],
 ) -> u64
-    ensures { HandedOut (told a) result words.old words.new signed.old signed.new floats.old floats.new }
+    ensures { HandedBy a result words.old words.new signed.old signed.new floats.old floats.new }
 {
-    let refusal = a.refusal;
-    if refusal.number != 0 {
-        return status(refusal);
+    match a {
+        Ok(read) => {
+            let h = read.header;
+            give_words(read, words);
+            give_signed(h, signed);
+            give_floats(h.restoration_filter, floats);
+            status(accepted())
+        }
+        Err(refusal) => status(refusal),
     }
-    let h = a.header;
-    let filter = h.restoration_filter;
-    give_words(a, words);
-    give_signed(h, signed);
-    give_floats(filter, floats);
-    status(refusal)
 }

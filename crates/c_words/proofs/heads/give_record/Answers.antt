@@ -1,9 +1,12 @@
--- `give_record`: refused, or all three slices.
-use Rattle.c_words.proofs.Recording.{handed_none, handed_all}
+-- `give_record`: all three slices, or refused.
+use mathlib.Core.Path.{refl, ◌∙◌, ap}
+use Rattle.header.specs.Entry.{refused_header}
+use Rattle.c_words.specs.Status.{status_of}
 use Rattle.c_words.proofs.heads.give_record.Goals as goal
 
-pub returns-then-refusal-ne0 : goal.returns-then-refusal-ne0
-returns-then-refusal-ne0 c = handed_none c.args.a _ c.status.ensures c.args.words.now c.args.signed.now c.args.floats.now c.if-refusal-ne0.true
+pub returns-in-Ok : goal.returns-in-Ok
+returns-in-Ok c = rw c.in-Ok.is (record { status = c.status.ensures ∙ ap status_of c.accepted.ensures; numbers = c.give_words.ensures; signs = c.give_signed.ensures; reals = c.give_floats.ensures })
 
-pub returns : goal.returns
-returns c = handed_all c.args.a _ c.status-2.ensures c.args.words.now c.args.signed.now c.args.floats.now c.if-refusal-ne0.false _ _ _ c.give_words.ensures c.give_signed.ensures c.give_floats.ensures
+pub returns-in-Err : goal.returns-in-Err
+unfolding refused_header
+returns-in-Err c = rw c.in-Err.is (record { status = c.status-in-Err.ensures; numbers = refl; signs = refl; reals = refl })
