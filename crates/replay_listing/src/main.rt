@@ -43,11 +43,13 @@ fn run(
 }
 
 fn work(lines: &mut Output, s: &[u8], out: &mut [u8]) {
-    let a = listing_job::list_frame(s, out);
-    let length = a.length;
+    let (length, refusal) = match listing_job::list_frame(s, out) {
+        Ok(length) => (length, bits::accepted()),
+        Err(refusal) => (0, refusal),
+    };
     replay::show(lines, length as u64);
-    replay::refusal(lines, a.refusal);
-    let n = fill::least(length, out.len());
+    replay::refusal(lines, refusal);
+    let n = length.min(out.len());
     replay::show(lines, replay::sum_bytes(false, 0, &out[n..]));
     replay::end(lines);
     lines.text(&out[0..n]);
