@@ -33,14 +33,13 @@ use Rattle.toc.specs.Sizes.{toc_rows, size_rows, sent_before, offsets_by, sizes_
 use Rattle.toc.specs.Reading.{room_for, judged_by, judged_order, toc_of, sized_answer, first_read, second_read, refused_read, first_reading, second_reading, tables_of, written}
 use Rattle.decimal.specs.Decimal.{spelled, decimal, digits_alone, leads, value_from, parsed, judged as decimal-judged}
 use Rattle.decimal.specs.UpTo.{up_to, behind, numbered}
-use Rattle.listing.specs.Text.{column, heading, kind_name, row_text, rows_from, total_text}
-use Rattle.listing.specs.Private.{cells}
-use Rattle.listing.specs.Listed.{rect_by, row_at, listing_text}
+use Rattle.listing.specs.Text.{column, columns_of, heading, kind_name, row_text, rows_from, total_text}
+use Rattle.listing.specs.Listed.{rect_by, kind_in, row_at, listing_text}
 use Rattle.listing_job.specs.Line.{limits, facts_from, stop_before, line_read}
 use Rattle.listing_job.specs.Job.{read_text, reading_text, header_text, job_text}
 
 pub every_edge : Edges
-unfolding read bind within times failed field more run cut bits_at extensions lengths restoration filter_default gabor channel gabor_of gabor_default epf sharp scale sigma sharp_default scale_default sigma_default epf_default float floats unbalanced grid_of good_record laid refused_grid rect_for cell_of clipped has judge placed header front back opening passes scales placement element covers_side covers_image source_decider has_source blending closing header_of judged refused_header answered is_order checked tabulate index_of inverse_of identity filled has_kind section_number kind_at section_answer section_of_kind kind_of place_refusal place_by place_of toc_rows size_rows sent_before offsets_by sizes_by room_for judged_by judged_order toc_of sized_answer first_read second_read refused_read first_reading second_reading tables_of written sections_of up sample all_below distinct occurs sum_to half of_int div of_bits round float-decimal quotient spelled decimal digits_alone leads value_from parsed decimal-judged up_to behind numbered column cells heading kind_name row_text rows_from total_text rect_by row_at listing_text limits facts_from stop_before line_read read_text reading_text header_text job_text
+unfolding read bind within times failed field more run cut bits_at extensions lengths restoration filter_default gabor channel gabor_of gabor_default epf sharp scale sigma sharp_default scale_default sigma_default epf_default float floats unbalanced grid_of good_record laid refused_grid rect_for cell_of clipped has judge placed header front back opening passes scales placement element covers_side covers_image source_decider has_source blending closing header_of judged refused_header answered is_order checked tabulate index_of inverse_of identity filled has_kind section_number kind_at section_answer section_of_kind kind_of place_refusal place_by place_of toc_rows size_rows sent_before offsets_by sizes_by room_for judged_by judged_order toc_of sized_answer first_read second_read refused_read first_reading second_reading tables_of written sections_of up sample all_below distinct occurs sum_to half of_int div of_bits round float-decimal quotient spelled decimal digits_alone leads value_from parsed decimal-judged up_to behind numbered column columns_of heading kind_name row_text rows_from total_text rect_by kind_in row_at listing_text limits facts_from stop_before line_read read_text reading_text header_text job_text
 every_edge = record {
   P1 = refl;
   P2 = refl;

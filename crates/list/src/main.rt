@@ -11,7 +11,8 @@ fn main(rt: HostRuntime) -> io::Result<()> {
     let n = input::read_full(&mut rt.stdin(), &mut input)?;
     // 1,026 lines of at most 79 bytes
     let mut out = [0u8; 81054];
-    let answer = listing_job::list_frame(&input[..n], &mut out);
-    let length = answer.length;
-    rt.stdout().write_all(&out[..length])
+    if let Ok(length) = listing_job::list_frame(&input[..n], &mut out) {
+        rt.stdout().write_all(&out[..length])?;
+    }
+    Ok(())
 }

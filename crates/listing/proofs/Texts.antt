@@ -118,14 +118,34 @@ put_size : (b : Bool) (text out : List ℕ) → length (pick b (sets out 0 text)
 put_size true text out = length-sets out 0 text
 put_size false text out = refl
 
-pub texted_within : {out' : List ℕ} (text out : List ℕ) (a : Result ℕ Refusal) (n : ℕ) → Texted (fitted text out) text out a out' → a ≡ Ok n → n ≤ length out'
-unfolding answer_by
-texted_within {out'} text out a n w h =
-    let same : length out' ≡ length out = ap length w.bytes ∙ put_size (eqb (fitted text out).number 0) text out in
-    let is : answer_by (fitted text out) text ≡ Ok n = sym w.answer ∙ h in
-    by_cases (dec_le (length text) (length out))
-    (λ y. let e : n ≡ length text = cc (rw (le-leb (length text) (length out) y) at is) in omega (arith, y))
-    (λ y. absurd (cc (rw (lt-leb (length text) (length out) (omega (arith, y))) at is)))
+-- what the answer says of the text
+module _ {out' : List ℕ} (text out : List ℕ) (a : Result ℕ Refusal) (w : Texted (fitted text out) text out a out') where
+  pub texted_ok : (n : ℕ) → a ≡ Ok n → (fitted text out ≡ none) × (n ≡ length text)
+  unfolding answer_by
+  texted_ok n h =
+      let is : answer_by (fitted text out) text ≡ Ok n = sym w.answer ∙ h in
+      by_cases (dec_le (length text) (length out))
+      (λ y. (rw (le-leb (length text) (length out) y), cc (rw (le-leb (length text) (length out) y) at is)))
+      (λ y. absurd (cc (rw (lt-leb (length text) (length out) (omega (arith, y))) at is)))
 
-pub texted_part : {out' : List ℕ} (text out : List ℕ) (a : Result ℕ Refusal) (n : ℕ) → Texted (fitted text out) text out a out' → a ≡ Ok n → n ≡ length (take n out')
-texted_part {out'} text out a n w h = omega (arith, texted_within text out a n w h, length-take n out')
+  pub texted_err : (r : Refusal) → a ≡ Err r → (fitted text out ≡ r) × (fitted text out ≡ refusal 3 0)
+  unfolding answer_by
+  texted_err r h =
+      let is : answer_by (fitted text out) text ≡ Err r = sym w.answer ∙ h in
+      by_cases (dec_le (length text) (length out))
+      (λ y. absurd (cc (rw (le-leb (length text) (length out) y) at is)))
+      (λ y.
+      let short : leb (length text) (length out) ≡ false = lt-leb (length text) (length out) (omega (arith, y)) in
+      (rw short (cc (rw short at is)), rw short))
+
+  pub texted_within : (n : ℕ) → a ≡ Ok n → n ≤ length out'
+  texted_within n h =
+      let same : length out' ≡ length out = ap length w.bytes ∙ put_size (eqb (fitted text out).number 0) text out in
+      by_cases (dec_le (length text) (length out))
+      (λ y. omega (arith, y, (texted_ok n h).1))
+      (λ y.
+      let short : refusal 3 0 ≡ none = sym (rw (lt-leb (length text) (length out) (omega (arith, y)))) ∙ (texted_ok n h).0 in
+      absurd (omega (arith, ap (λ (x : Refusal). x.number) short)))
+
+  pub texted_part : (n : ℕ) → a ≡ Ok n → n ≡ length (take n out')
+  texted_part n h = omega (arith, texted_within n h, length-take n out')

@@ -2,13 +2,14 @@
 -- text, 1,026 lines of at most 79: `Enough` says that whatever stands on standard input, its whole text is written.
 use Prim.Native.Nat.{ℕ, ◌+◌, ◌≤◌, ◌<◌}
 use native.Mathlib.Omega.{arith}
-use mathlib.Core.Path.{◌≡◌, refl, ◌∙◌, ap}
+use mathlib.Core.Path.{◌≡◌, refl, ◌∙◌}
 use mathlib.Core.Bool.{true}
 use mathlib.Core.List.{List, ◌++◌}
 use lib.Dec.{eqb}
 use lib.ListN.{length, get_or, take, drop}
 use lib.Seq.{sets-eq, take_at, drop_at}
 use borrow.Author.Tests.{le-leb, eqb-true}
+use Rattle.std.specs.Prelude.{Result, Ok}
 use Rattle.bits.specs.declared.Refusal.{Refusal}
 use Rattle.bits.specs.Refusals.{refusal, none}
 use Rattle.bits.specs.Bits.{bit_count}
@@ -25,7 +26,6 @@ use Rattle.toc.specs.declared.TocRead.{TocRead}
 use Rattle.toc.specs.declared.TocRead.TheVariants.{Table, OrderNeeded, Refused}
 use Rattle.toc.specs.Reading.{Reading, first_reading, after}
 use Rattle.toc.proofs.Accepted.{Accepted, first_accepted}
-use Rattle.listing.specs.declared.TextAnswer.{TextAnswer}
 use Rattle.listing.specs.Put.{Texted, fitted, answer_by}
 use Rattle.listing.specs.Text.{refused_text}
 use Rattle.listing.specs.Listed.{listing}
@@ -42,15 +42,14 @@ use Rattle.theorems.proofs.Lengths.{Known, refused_long, order_long, listing_lon
 -- ---- what is said
 
 -- what `list_frame` promises of an input, the lent bytes before and after, and its answer
-abbrev pub Promised : List ℕ → List ℕ → TextAnswer → List ℕ → Type 0
+abbrev pub Promised : List ℕ → List ℕ → Result ℕ Refusal → List ℕ → Type 0
 Promised input out answer out' = Texted (fitted (job_text input) out) (job_text input) out answer out'
 
 -- the whole text of an input stands in front in the lent bytes, nothing is refused, and those behind it are as they were
-pub record WrittenWhole (input out : List ℕ) (answer : TextAnswer) (out' : List ℕ) : Type 0 where
-  pub accepted : answer.refusal ≡ none
-  pub long : answer.length ≡ length (job_text input)
-  pub text : take answer.length out' ≡ job_text input
-  pub behind : drop answer.length out' ≡ drop answer.length out
+pub record WrittenWhole (input out : List ℕ) (answer : Result ℕ Refusal) (out' : List ℕ) : Type 0 where
+  pub accepted : answer ≡ Ok (length (job_text input))
+  pub text : take (length (job_text input)) out' ≡ job_text input
+  pub behind : drop (length (job_text input)) out' ≡ drop (length (job_text input)) out
 
 pub record Enough : Type 0 where
   -- the output array: the text of any input has at most 81,054 bytes
@@ -58,7 +57,7 @@ pub record Enough : Type 0 where
   -- the input array: of any input the first 32,802 bytes have the same text as the whole
   pub input : (stdin : List ℕ) → job_text (take 32802 stdin) ≡ job_text stdin
   -- together: `list_frame`, given the first 32,802 bytes and lent at least 81,054, writes the text of the whole
-  pub written : (stdin out : List ℕ) (answer : TextAnswer) (out' : List ℕ) → 81054 ≤ length out → Promised (take 32802 stdin) out answer out'
+  pub written : (stdin out : List ℕ) (answer : Result ℕ Refusal) (out' : List ℕ) → 81054 ≤ length out → Promised (take 32802 stdin) out answer out'
       → WrittenWhole stdin out answer out'
 
 -- ---- the text of an accepted table
@@ -144,11 +143,11 @@ job_fits input =
 -- ---- what is written
 
 -- a text that fits is written whole
-module _ (text out : List ℕ) (a : TextAnswer) (out' : List ℕ) (h : length text ≤ length out) (p : Texted (fitted text out) text out a out') where
+module _ (text out : List ℕ) (a : Result ℕ Refusal) (out' : List ℕ) (h : length text ≤ length out) (p : Texted (fitted text out) text out a out') where
   fits_none : fitted text out ≡ none
   fits_none = rw (le-leb (length text) (length out) h)
 
-  answer_is : a ≡ record { length = length text; refusal = none }
+  answer_is : a ≡ Ok (length text)
   unfolding answer_by
   answer_is = p.answer ∙ rw fits_none
 
@@ -159,10 +158,9 @@ module _ (text out : List ℕ) (a : TextAnswer) (out' : List ℕ) (h : length te
 
   pub written_whole : (input : List ℕ) → text ≡ job_text input → WrittenWhole input out a out'
   written_whole input e = record {
-    accepted = ap (λ (x : TextAnswer). x.refusal) answer_is;
-    long = ap (λ (x : TextAnswer). x.length) answer_is ∙ ap length e;
-    text = rw (answer_is, bytes_are) (take_at text (drop (length text) out) (length text) refl ∙ e);
-    behind = rw (answer_is, bytes_are) (drop_at text (drop (length text) out) (length text) refl);
+    accepted = rw (← e) answer_is;
+    text = rw (bytes_are, ← e) (take_at text (drop (length text) out) (length text) refl);
+    behind = rw (bytes_are, ← e) (drop_at text (drop (length text) out) (length text) refl);
   }
 
 -- ---- the law

@@ -39,8 +39,8 @@ use Rattle.layout.specs.Layouts.{nowhere, layout_of, has_in, section_in}
 use Rattle.toc.specs.Sizes.{toc_rows, size_rows}
 use Rattle.toc.specs.Reading.{tables, toc_numbers, room_for, judged_by, judged_order, toc_of, sized_answer, first_read, second_read, refused_read, first_reading, second_reading}
 use Rattle.decimal.specs.Decimal.{spelled, decimal}
-use Rattle.listing.specs.Text.{column, heading, kind_name, row_text, rows_from, total_text, refused_text, order_text}
-use Rattle.listing.specs.Listed.{rect_by, row_at, listing_text, listing_refusal}
+use Rattle.listing.specs.Text.{column, columns_of, heading, kind_name, row_text, rows_from, total_text, refused_text, order_text}
+use Rattle.listing.specs.Listed.{rect_by, kind_in, row_at, listing_text, listing_refusal}
 use Rattle.c_words.specs.Records.{frame, section_of_numbers}
 use Rattle.c_words.specs.Layouts.{section_by}
 use Rattle.c_words.specs.Contents.{no_room, roomed_reading}
@@ -122,7 +122,7 @@ unfolding answered judged_all judged refused_header
 head_long s h = rw h
 
 pub every_number : EveryNumber
-unfolding read bind within times failed field more run cut bits_at extensions lengths restoration gabor channel epf sharp scale sigma float floats unbalanced grid_of good_record laid refused_grid sections_of up sample has judge numbered touching placed sampled rect_for size_of lf_index_of index_for touch_for header front back opening passes scales placement element covers_side covers_image source_decider has_source blending closing judged refused_header answered is_order checked all_below distinct occurs inverted looked_up entry_at sent_of section_of has_kind kind_at sum_to section_answer section_of_kind kind_of has_sample section_of_sample place_refusal place_by place_of sent_of_section section_of_sent layout_of has_in section_in toc_rows size_rows room_for judged_by judged_order toc_of sized_answer first_read second_read refused_read first_reading second_reading spelled decimal column heading kind_name row_text rows_from total_text refused_text order_text rect_by row_at listing_text listing_refusal section_of_numbers section_by no_room roomed_reading no_record judged_all
+unfolding read bind within times failed field more run cut bits_at extensions lengths restoration gabor channel epf sharp scale sigma float floats unbalanced grid_of good_record laid refused_grid sections_of up sample has judge numbered touching placed sampled rect_for size_of lf_index_of index_for touch_for header front back opening passes scales placement element covers_side covers_image source_decider has_source blending closing judged refused_header answered is_order checked all_below distinct occurs inverted looked_up entry_at sent_of section_of has_kind kind_at sum_to section_answer section_of_kind kind_of has_sample section_of_sample place_refusal place_by place_of sent_of_section section_of_sent layout_of has_in section_in toc_rows size_rows room_for judged_by judged_order toc_of sized_answer first_read second_read refused_read first_reading second_reading spelled decimal column columns_of heading kind_name row_text rows_from total_text refused_text order_text rect_by kind_in row_at listing_text listing_refusal section_of_numbers section_by no_room roomed_reading no_record judged_all
 every_number = record {
   measure = ((bad, refl), ((empty, refl), ((wide, refl), tt)));
   sample_width_lem = ((bad, refl), ((empty, refl), ((wide, refl), tt)));

@@ -15,8 +15,7 @@ use borrow.Author.Tests.{lt-ltb, le-ltb, ltb-true, ltb-false}
 use Rattle.bits.specs.Refusals.{pick, refusal}
 use Rattle.bits.proofs.Bits.{and_left, and_right}
 use Rattle.order.proofs.Entries.{split}
-use Rattle.decimal.specs.declared.Parsed.{Parsed}
-use Rattle.decimal.specs.Decimal.{decimal, parsed, good, bad}
+use Rattle.decimal.specs.Decimal.{Parsed, decimal, parsed, good, bad}
 use Rattle.decimal.specs.UpTo.{up_to, behind, ended, numbered}
 use Rattle.decimal.proofs.Spelling.{decimal_small, decimal_large, decimal_long}
 use Rattle.decimal.proofs.Finding.{numbered_small}

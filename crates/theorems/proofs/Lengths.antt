@@ -5,14 +5,15 @@ use native.Mathlib.Omega.{arith}
 use native.Mathlib.Nat.{mul-le-mul, le-mul_of_pos_right, mul_comm}
 use mathlib.Core.Path.{◌≡◌, refl, ◌∙◌}
 use mathlib.Core.Bool.{Bool, true, false, ◌&&◌, false≢true}
-use mathlib.Core.List.{List, ◌++◌}
+use mathlib.Core.List.{List, ◌++◌, map}
+use Rattle.std.specs.Prelude.{Option, Some, None}
 use lib.Dec.{eqb, ltb}
 use lib.ListN.{length, get_or, length-append}
 use borrow.Author.Tests.{eqb-true, lt-ltb, ltb-true}
 use Rattle.bits.specs.declared.Refusal.{Refusal}
 use Rattle.bits.specs.Refusals.{pick, none}
 use Rattle.bits.proofs.Bits.{and_left}
-use Rattle.bits.proofs.Reading.{picked, of_both}
+use Rattle.bits.proofs.Reading.{picked}
 use Rattle.grid.specs.declared.Frame.{Frame}
 use Rattle.grid.specs.declared.Rect.{Rect}
 use Rattle.grid.specs.Sizes.{up}
@@ -25,12 +26,12 @@ use Rattle.decimal.proofs.Spelling.{decimal_long}
 use Rattle.order.specs.Sums.{sum_to}
 use Rattle.sections.specs.declared.TocGroupKind.{TocGroupKind}
 use Rattle.sections.specs.declared.TocGroupKind.TheVariants.{All, LfGlobal, LfGroup, HfGlobal, GroupPass}
-use Rattle.sections.specs.declared.KindNumbers.{KindNumbers}
-use Rattle.sections.specs.Kinds.{numbers_of, has_kind, section_number, kind_at, kind_of}
+use Rattle.sections.specs.Kinds.{has_kind, section_number, kind_at}
 use Rattle.sections.proofs.Counts.{counts}
 use Rattle.listing.specs.declared.rows.Row.{Row}
-use Rattle.listing.specs.Text.{column, heading, kind_name, has_pass, has_group, has_rect, row_text, rows_from, total_text, refused_text, order_text}
-use Rattle.listing.specs.Listed.{rect_by, kind_numbers, row_at, listing_text}
+use Rattle.listing.specs.Text.{joined, column, heading, pass_of, group_of, sides_of, columns_of, row_text, rows_from, total_text, refused_text, order_text}
+use Rattle.listing.specs.Listed.{rect_by, kind_in, row_at, listing_text}
+use Rattle.listing.proofs.Columns.{kind_short}
 use Rattle.theorems.proofs.KindsBack.{Stands, kind_stands}
 
 -- a number of the rules, and a place within the longest input
@@ -39,52 +40,63 @@ Known r = (r.number ≤ 14) × (r.place ≤ 134217728)
 
 -- ---- a column
 
-column_long : (shown : Bool) (k n : ℕ) → n < 10 ^ suc k → length (column shown n) ≤ suc k
+-- a number that is shown is below a bound
+abbrev Below : ℕ → Option ℕ → Type 0
+Below n None = Unit {0}
+Below n (Some v) = v < n
+
+column_long : (c : Option ℕ) (k : ℕ) → Below (10 ^ suc k) c → length (column c) ≤ suc k
 unfolding column
-column_long true k n h = decimal_long k n h
-column_long false k n h = omega arith
-
-abbrev Short : List ℕ → Type 0
-Short name = length name ≤ 9
-
-kind_long : (kind : ℕ) → length (kind_name kind) ≤ 9
-unfolding kind_name
-kind_long kind =
-    of_both Short (eqb kind 0) _ _ (omega arith)
-    (of_both Short (eqb kind 1) _ _ (omega arith)
-    (of_both Short (eqb kind 2) _ _ (omega arith)
-    (of_both Short (eqb kind 3) _ _ (omega arith) (omega arith))))
+column_long None k h = omega arith
+column_long (Some n) k h = decimal_long k n h
 
 -- ---- a line
+
+-- a kind's pass and group; a rectangle of a picture of at most 1,048,576 samples a side, in squares of at most 8,192
+abbrev pub SmallKind : TocGroupKind → Type 0
+SmallKind k = Below 100 (pass_of k) × Below 10000 (group_of k)
+
+pub record SmallRect (r : Rect) : Type 0 where
+  pub left : r.left < 10000000
+  pub top : r.top < 10000000
+  pub width : r.width < 10000
+  pub height : r.height < 10000
+
+abbrev pub SmallSides : Option Rect → Type 0
+SmallSides None = Unit {0}
+SmallSides (Some r) = SmallRect r
 
 -- the numbers of a section's line: four digits of a section, a group, a sent number, a width and a height; two of a pass; 13 of an offset, ten of a
 -- size, and seven of a left and a top
 pub record Small (r : Row) : Type 0 where
   pub section : r.section < 10000
-  pub pass : r.pass_idx < 100
-  pub group : r.group_idx < 10000
+  pub kind : SmallKind r.kind
   pub sent : r.sent < 10000
   pub offset : r.offset < 10000000000000
   pub size : r.size < 10000000000
-  pub left : r.rect.left < 10000000
-  pub top : r.rect.top < 10000000
-  pub width : r.rect.width < 10000
-  pub height : r.rect.height < 10000
+  pub rect : SmallSides r.rect
+
+sides_long : (q : Option Rect) → SmallSides q → length (joined (map column (sides_of q))) ≤ 27
+unfolding column
+sides_long None w = omega arith
+sides_long (Some r) w =
+    let left = decimal_long 6 r.left w.left in
+    let top = decimal_long 6 r.top w.top in
+    let width = decimal_long 3 r.width w.width in
+    let height = decimal_long 3 r.height w.height in
+    simp length-append (omega arith)
 
 pub row_long : (r : Row) → Small r → length (row_text r) ≤ 79
-unfolding row_text
+unfolding row_text columns_of column
 row_long r w =
     let section = decimal_long 3 r.section w.section in
-    let kind = kind_long r.kind in
-    let pass = column_long (has_pass r.kind) 1 r.pass_idx w.pass in
-    let group = column_long (has_group r.kind) 3 r.group_idx w.group in
+    let kind = kind_short r.kind in
+    let pass = column_long (pass_of r.kind) 1 w.kind.0 in
+    let group = column_long (group_of r.kind) 3 w.kind.1 in
     let sent = decimal_long 3 r.sent w.sent in
     let offset = decimal_long 12 r.offset w.offset in
     let size = decimal_long 9 r.size w.size in
-    let left = column_long (has_rect r.kind) 6 r.rect.left w.left in
-    let top = column_long (has_rect r.kind) 6 r.rect.top w.top in
-    let width = column_long (has_rect r.kind) 3 r.rect.width w.width in
-    let height = column_long (has_rect r.kind) 3 r.rect.height w.height in
+    let sides = sides_long r.rect w.rect in
     simp length-append (omega arith)
 
 pub refused_long : (r : Refusal) → Known r → length (refused_text r) ≤ 21
@@ -126,26 +138,16 @@ has_by : (b x : Bool) → pick b false x ≡ true → x ≡ true
 has_by true x e = absurd (false≢true e)
 has_by false x e = e
 
-abbrev SmallKind : KindNumbers → Type 0
-SmallKind k = (k.pass_idx < 100) × (k.group_idx < 10000)
-
 -- its kind: a pass below the frame's passes, and a group no larger than the section's number
-kind_small : (f : Frame) (g : Measured) (i : ℕ) → f.num_passes ≤ 11 → i < 1024 → (kind : TocGroupKind) → Stands f g i kind → SmallKind (numbers_of kind)
+kind_small : (f : Frame) (g : Measured) (i : ℕ) → f.num_passes ≤ 11 → i < 1024 → (kind : TocGroupKind) → Stands f g i kind → SmallKind kind
 unfolding has_kind section_number
-kind_small f g i p h All w = (omega arith, omega arith)
-kind_small f g i p h LfGlobal w = (omega arith, omega arith)
-kind_small f g i p h (LfGroup j) w = (omega arith, omega (arith, w.number))
-kind_small f g i p h HfGlobal w = (omega arith, omega arith)
+kind_small f g i p h All w = (tt, tt)
+kind_small f g i p h LfGlobal w = (tt, tt)
+kind_small f g i p h (LfGroup j) w = (tt, omega (arith, w.number))
+kind_small f g i p h HfGlobal w = (tt, tt)
 kind_small f g i p h (GroupPass pass j) w =
     let both = has_by (eqb g.sections 1) (ltb pass f.num_passes && ltb j g.groups) w.has in
     (omega (arith, ltb-true pass f.num_passes (and_left (ltb pass f.num_passes) (ltb j g.groups) both)), omega (arith, w.number))
-
--- a rectangle of a picture of at most 1,048,576 samples a side, in squares of at most 8,192
-pub record SmallRect (r : Rect) : Type 0 where
-  pub left : r.left < 10000000
-  pub top : r.top < 10000000
-  pub width : r.width < 10000
-  pub height : r.height < 10000
 
 module _ (g : Measured) (side i : ℕ) (w : g.width ≤ 1048576) (h : g.height ≤ 1048576) (s : side ≤ 8192) where
   square_in : has g side i ≡ true → SmallRect (rect_of g.width g.height side i)
@@ -205,23 +207,23 @@ module _ (f : Frame) (z : (grid_of f).refusal.number ≡ 0) (h : (grid_of f).sec
   grid = grid_of f
 
   -- its rectangle: that of All is one group's
-  rect_small : (kind : TocGroupKind) → Stands f grid i kind → SmallRect (rect_by grid (numbers_of kind))
+  rect_small : (kind : TocGroupKind) → Stands f grid i kind → SmallSides (rect_by grid kind)
   unfolding rect_by has_kind
   rect_small All w =
       let n : Few f grid = few f z in
       let one = (counts f grid refl z).one (eqb-true grid.sections 1 (alone_by (eqb grid.sections 1) w.has)) in
       record { left = omega arith; top = omega arith; width = omega (arith, n.width, one.0); height = omega (arith, n.height, one.0) }
-  rect_small LfGlobal w = record { left = omega arith; top = omega arith; width = omega arith; height = omega arith }
+  rect_small LfGlobal w = tt
   rect_small (LfGroup j) w =
       let n : Few f grid = few f z in
       square_small grid grid.lf_side j (omega (arith, n.width, n.groups)) (omega (arith, n.height, n.groups)) n.lf_side_lem
-  rect_small HfGlobal w = record { left = omega arith; top = omega arith; width = omega arith; height = omega arith }
+  rect_small HfGlobal w = tt
   rect_small (GroupPass p j) w =
       let n : Few f grid = few f z in
       square_small grid grid.side j (omega (arith, n.width, n.groups)) (omega (arith, n.height, n.groups)) (omega (arith, n.side))
 
-  kind_is : kind_numbers f i ≡ numbers_of (kind_at grid i)
-  unfolding kind_of
+  kind_is : kind_in f i ≡ kind_at grid i
+  unfolding kind_in
   kind_is =
       let ok = judge_known grid (ltb i grid.sections) none z (lt-ltb i grid.sections l) refl in
       rw (← ok)
@@ -231,19 +233,13 @@ module _ (f : Frame) (z : (grid_of f).refusal.number ≡ 0) (h : (grid_of f).sec
   unfolding row_at
   row_small offsets sizes order sent offset size =
       let w : Stands f grid i (kind_at grid i) = kind_stands f grid (counts f grid refl z) i l in
-      let kind : SmallKind (kind_numbers f i) = rw kind_is (kind_small f grid i (accepted f z).good.passes (omega arith) (kind_at grid i) w) in
-      let rect : SmallRect (rect_by grid (kind_numbers f i)) = rw kind_is (rect_small (kind_at grid i) w) in
       record {
         section = omega arith;
-        pass = kind.0;
-        group = kind.1;
+        kind = rw kind_is (kind_small f grid i (accepted f z).good.passes (omega arith) (kind_at grid i) w);
         sent = omega arith;
         offset = offset;
         size = size;
-        left = rect.left;
-        top = rect.top;
-        width = rect.width;
-        height = rect.height;
+        rect = rw kind_is (rect_small (kind_at grid i) w);
       }
 
 -- ---- the listing

@@ -12,8 +12,7 @@ use lib.ListN.{get_or}
 use borrow.Author.Tests.{le-leb, leb-true, eqb-false, ne_eqb, not-true}
 use Rattle.bits.specs.Refusals.{pick}
 use Rattle.bits.proofs.Bits.{and_left, and_right}
-use Rattle.decimal.specs.declared.Parsed.{Parsed}
-use Rattle.decimal.specs.Decimal.{decimal, is_digit, digits_alone, leads, value_from, judged, parsed, good, bad}
+use Rattle.decimal.specs.Decimal.{Parsed, decimal, is_digit, digits_alone, leads, value_from, judged, parsed, good, bad}
 use Rattle.decimal.proofs.Spelling.{onto_large, onto_is, decimal_small, decimal_large}
 
 -- ---- one digit more behind a text

@@ -5,6 +5,7 @@ use mathlib.Core.List.{List}
 use lib.Dec.{eqb}
 use lib.Ieee.{Float}
 use lib.IntN.{ℤ}
+use Rattle.std.specs.Prelude.{Result}
 use Rattle.bits.specs.declared.Refusal.{Refusal}
 use Rattle.bits.specs.Refusals.{pick}
 use Rattle.bits.proofs.Once.{once}
@@ -28,7 +29,6 @@ use Rattle.toc.specs.declared.TocRead.{TocRead}
 use Rattle.toc.specs.Reading.{Tables, Reading, first_reading, second_reading, Done}
 use Rattle.toc.proofs.Accepted.{Telling, same_answer, first_telling, second_telling}
 use Rattle.theorems.proofs.KindsBack.{same_kind}
-use Rattle.listing.specs.declared.TextAnswer.{TextAnswer}
 use Rattle.listing.specs.Put.{Texted}
 use Rattle.c_words.specs.Answers.{Answer, Given}
 use Rattle.c_words.specs.Contents.{Listed}
@@ -135,7 +135,7 @@ pub second_once : (s : List ℕ) (f : Frame) (place : ℕ) (lent : List ℕ) (t 
 second_once s f place lent t = done_once (second_reading s f place lent t) (second_telling s f place t lent) t
 
 -- a text
-pub texted_once : (r : Refusal) (text before : List ℕ) (x y : TextAnswer) (u v : List ℕ) → Texted r text before x u → Texted r text before y v → (x ≡ y) × (u ≡ v)
+pub texted_once : (r : Refusal) (text before : List ℕ) (x y : Result ℕ Refusal) (u v : List ℕ) → Texted r text before x u → Texted r text before y v → (x ≡ y) × (u ≡ v)
 texted_once r text before x y u v p q = (once p.answer q.answer, once p.bytes q.bytes)
 
 -- the C functions

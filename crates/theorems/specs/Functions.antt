@@ -1,6 +1,6 @@
 -- Demand 1, whole: each public function that can refuse, over what it promises, ends with an answer or with one of its numbers. Each part is
 -- named after its function, and is a law of the files of proofs/; `every_function` of proofs/Functions.antt has them all.
-use Rattle.std.specs.Prelude.{ℕ, ◌≡◌, List, Bool, true, false, ltb, length}
+use Rattle.std.specs.Prelude.{ℕ, ◌≡◌, List, Bool, true, false, ltb, length, Result}
 use Rattle.bits.specs.declared.Refusal.{Refusal}
 use Rattle.bits.specs.declared.Cursor.{Cursor}
 use Rattle.bits.specs.Bits.{bit_count}
@@ -32,7 +32,6 @@ use Rattle.layout.specs.declared.Layout.{Layout}
 use Rattle.layout.specs.Layouts.{layout_of, section_in}
 use Rattle.toc.specs.declared.TocRead.{TocRead}
 use Rattle.toc.specs.Reading.{Tables, tables, first_reading, second_reading, Done}
-use Rattle.listing.specs.declared.TextAnswer.{TextAnswer}
 use Rattle.listing.specs.Put.{fitted, Texted}
 use Rattle.listing.specs.Text.{refused_text, order_text}
 use Rattle.listing.specs.Listed.{listing, listing_refusal}
@@ -92,13 +91,13 @@ pub record EveryFunction : Type 0 where
       → Ends of_header (bit_count s) r.refusal (header_said zero_header 0 name upsampling blending)
       (header_said (numbers_of r.header) r.end name' upsampling' blending')
   -- texts; `list_frame` with any text
-  pub write_refused : (r : Refusal) (before : List ℕ) (a : TextAnswer) (after : List ℕ)
+  pub write_refused : (r : Refusal) (before : List ℕ) (a : Result ℕ Refusal) (after : List ℕ)
       → Texted (fitted (refused_text r) before) (refused_text r) before a after → TextEnds of_text a before after
-  pub write_order_needed : (place : ℕ) (before : List ℕ) (a : TextAnswer) (after : List ℕ)
+  pub write_order_needed : (place : ℕ) (before : List ℕ) (a : Result ℕ Refusal) (after : List ℕ)
       → Texted (fitted (order_text place) before) (order_text place) before a after → TextEnds of_text a before after
-  pub write_listing : (f : Frame) (offsets sizes order before : List ℕ) (a : TextAnswer) (after : List ℕ)
+  pub write_listing : (f : Frame) (offsets sizes order before : List ℕ) (a : Result ℕ Refusal) (after : List ℕ)
       → Texted (listing_refusal f offsets sizes order before) (listing f offsets sizes order) before a after → TextEnds of_listing a before after
-  pub list_frame : (input before : List ℕ) (a : TextAnswer) (after : List ℕ) → Texted (fitted (job_text input) before) (job_text input) before a after
+  pub list_frame : (input before : List ℕ) (a : Result ℕ Refusal) (after : List ℕ) → Texted (fitted (job_text input) before) (job_text input) before a after
       → TextEnds of_text a before after
   -- readers
   pub read_bits_if : (s : List ℕ) (c : Cursor) (on : Bool) (n d : ℕ) → Hands of_bits s c (field s on (u n) d c).next

@@ -5,17 +5,16 @@ use Rattle.sections.specs.Lookups.{PlaceAnswer}
 use Rattle.order.specs.Numbers.{SectionAnswer, SentAnswer}
 use Rattle.grid.specs.Groups.{Sized, Touches, Placed, Number}
 use Rattle.grid.specs.Measured.{Measured}
-use Rattle.std.specs.Prelude.{ℕ, ◌/◌, ◌%◌, ◌≤◌, ◌<◌, ◌≡◌, ◌⊎◌, List, [], ◌∷◌, Bool, true, false, ◌&&◌, ◌||◌, eqb, leb}
+use Rattle.std.specs.Prelude.{ℕ, ◌/◌, ◌%◌, ◌≤◌, ◌<◌, ◌≡◌, ◌⊎◌, List, [], ◌∷◌, Bool, true, false, ◌&&◌, ◌||◌, eqb, leb, Result, Ok, Err}
 use Rattle.bits.specs.declared.Refusal.{Refusal}
 use Rattle.bits.specs.declared.Cursor.{Cursor}
-use Rattle.bits.specs.Refusals.{refusal, clear}
+use Rattle.bits.specs.Refusals.{refusal, none, clear}
 use Rattle.bits.specs.Bits.{bit_count}
 use Rattle.header.specs.Record.{HeaderNumbers}
 use Rattle.sections.specs.Kinds.{KindTold}
 use Rattle.toc.specs.declared.TocRead.{TocRead}
 use Rattle.toc.specs.declared.TocRead.TheVariants.{Table, OrderNeeded, Refused}
 use Rattle.toc.specs.Reading.{Tables}
-use Rattle.listing.specs.declared.TextAnswer.{TextAnswer}
 
 -- whether a number stands in a list
 abbrev pub among : List ℕ → ℕ → Bool
@@ -42,6 +41,15 @@ pub record Refuses (numbers : List ℕ) (last : ℕ) (r : Refusal) : Type 0 wher
 pub record Ends {A : Type 0} (numbers : List ℕ) (last : ℕ) (r : Refusal) (beside said : A) : Type 0 where
   pub refuses : Refuses numbers last r
   pub either : (r.number ≡ 0 → ⊥) → said ≡ beside
+
+-- the refusal in an answer, none where there is an answer; and what it said, where it is refused so much
+abbrev pub refusal_in : {A : Type 0} → Result A Refusal → Refusal
+refusal_in (Ok a) = none
+refusal_in (Err r) = r
+
+abbrev pub said_in : {A : Type 0} → A → Result A Refusal → A
+said_in beside (Ok a) = a
+said_in beside (Err r) = beside
 
 -- the answers of functions that lend nothing: a number, yes or no, a rectangle, a size, a grid, a section number, a sent number, a kind, a place, a
 -- layout
@@ -97,9 +105,9 @@ pub record TextSaid : Type 0 where
   pub length : ℕ
   pub bytes : List ℕ
 
-abbrev pub TextEnds : List ℕ → TextAnswer → List ℕ → List ℕ → Type 0
+abbrev pub TextEnds : List ℕ → Result ℕ Refusal → List ℕ → List ℕ → Type 0
 TextEnds numbers a before after =
-    Ends {A = TextSaid} numbers 0 a.refusal (record { length = 0; bytes = before }) (record { length = a.length; bytes = after })
+    Ends {A = TextSaid} numbers 0 (refusal_in a) (record { length = 0; bytes = before }) (record { length = said_in 0 a; bytes = after })
 
 -- The section entries answer a table, or "order needed" where no order is lent, or a refusal, which has a number; only a table changes what was lent.
 abbrev pub Tells : {A : Type 0} → List ℕ → Bool → ℕ → A → A → TocRead → Type 0
