@@ -1,10 +1,17 @@
 -- What a program's output gains.
-use Rattle.std.specs.Prelude.{ℕ, Bool, List, [], ◌∷◌, ◌++◌, if◌then◌else◌, IsOk}
+use Rattle.std.specs.Prelude.{Result, Ok, Err, ℕ, Bool, List, [], ◌∷◌, ◌++◌, if◌then◌else◌, IsOk}
 use Rattle.std.specs.Fmt.{decimal}
 use Rattle.std.specs.Io.KnownBytes.{Appends}
 use Rattle.std.specs.List.{flat_map}
 use Rattle.std.specs.declared.option.Option.{Option}
+use Rattle.bits.specs.declared.Refusal.{Refusal}
+use Rattle.bits.specs.Refusals.{none}
 use Rattle.replay.specs.declared.lines.Output.{Output}
+
+-- the refusal of an answer, or none
+abbrev pub refusal_in : {A : Type 0} → Result A Refusal → Refusal
+refusal_in (Ok a) = none
+refusal_in (Err r) = r
 
 -- a number and a tab
 abbrev pub shown : ℕ → List ℕ

@@ -6,7 +6,7 @@ mod sums;
 mod tables;
 mod words;
 
-pub use lines::{Output, buffered};
+pub use lines::{Output, buffered, refusal_of};
 pub use sums::{Summand, Tally, pattern, sum};
 pub use tables::{BYTES, WORDS, put_words, reversed, room, table};
 pub use words::{four, frame, long, size, word};

@@ -4,7 +4,7 @@ ghost use Rattle.std.specs.Prelude.{◌≡◌, [], ◌∷◌, ◌++◌, true, Er
 ghost use Rattle.std.specs.Fmt.{decimal};
 ghost use Rattle.std.specs.Io.Buffered.{writer_buffer, writer_inner};
 ghost use Rattle.std.specs.IoError.{error_kind};
-ghost use Rattle.replay.specs.Outputs.{shown, shown_by, Gains};
+ghost use Rattle.replay.specs.Outputs.{refusal_in, shown, shown_by, Gains};
 
 use crate::sums::Summand;
 use bits::Refusal;
@@ -17,6 +17,16 @@ use std::io::{BufWriter, ErrorKind, Stdout, Write};
 pub struct Output<W = BufWriter<Stdout>> {
     to: W,
     failed: io::Result<()>,
+}
+
+// The refusal of an answer, or none.
+pub fn refusal_of<T: Copy>(answer: Result<T, Refusal>) -> Refusal
+    ensures { result ≡ refusal_in answer }
+{
+    match answer {
+        Ok(_) => bits::accepted(),
+        Err(refusal) => refusal,
+    }
 }
 
 // Standard output, with a buffer in front.

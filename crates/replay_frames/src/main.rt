@@ -9,8 +9,9 @@
 use bits::Refusal;
 use grid::Frame;
 use header::Facts;
-use order::SectionNumber;
+use order::{SectionNumber, SentNumber};
 use replay::{Output, WORDS};
+use sections::{SectionPlace, TocGroupKind};
 use std::io;
 use std::io::Stdin;
 use toc::TocRead;
@@ -21,6 +22,16 @@ struct Beginning {
     end: u64,
     frame: Frame,
 }
+
+// What is shown beside a refusal.
+const NO_FRAME: Frame = Frame {
+    width: 0,
+    height: 0,
+    upsampling: 0,
+    lf_level: 0,
+    group_size_shift: 0,
+    num_passes: 0,
+};
 
 fn main(rt: HostRuntime) -> io::Result<()> {
     let mut input = rt.stdin();
@@ -82,9 +93,10 @@ fn head(out: &mut Output, s: &[u8], facts: Facts) -> Beginning {
     let mut name = [0u8; 1071];
     let mut upsampling = [0u32; 256];
     let mut blending = [0u32; 1024];
-    let a = header::read_frame_header(s, facts, &mut name, &mut upsampling, &mut blending);
-    let h = a.header;
-    begun(out, a.refusal, a.end, h.frame())
+    match header::read_frame_header(s, facts, &mut name, &mut upsampling, &mut blending) {
+        Ok(a) => begun(out, bits::accepted(), a.end, a.header.frame()),
+        Err(refusal) => begun(out, refusal, 0, NO_FRAME),
+    }
 }
 
 fn begun(out: &mut Output, refusal: Refusal, end: u64, f: Frame) -> Beginning {
@@ -168,12 +180,12 @@ fn row(
     sizes: &[u32],
     order: &[u32],
 ) {
-    let a = sections::kind_of(f, n);
-    let kind = a.kind;
+    let kind = sections::kind_of(f, n).unwrap_or(TocGroupKind::All);
     let k = sections::kind_numbers(kind);
-    let t = sections::sent_of_section(f, order, n);
-    let p = sections::section_at(f, offsets, sizes, n);
-    out.cells(&[k.kind, k.pass_idx, k.group_idx, t.sent.0]);
+    let sent = sections::sent_of_section(f, order, n).unwrap_or(SentNumber(0));
+    let place = sections::section_at(f, offsets, sizes, n);
+    let p = place.unwrap_or(SectionPlace { offset: 0, size: 0 });
+    out.cells(&[k.kind, k.pass_idx, k.group_idx, sent.0]);
     out.show(p.offset);
     out.show(u64::from(p.size));
     out.end();

@@ -2,8 +2,9 @@
 // an upsampling, a group, a point and two rectangles.
 #![tactic(auto)]
 
-use grid::{Frame, Number, Placed, Rect, Size, Touches};
-use replay::Output;
+use bits::Refusal;
+use grid::{Frame, Grid, Rect, Size};
+use replay::{Output, refusal_of};
 use std::io;
 
 fn main(rt: HostRuntime) -> io::Result<()> {
@@ -53,12 +54,26 @@ fn rect(r: &[u8], at: u32) -> Rect {
     }
 }
 
-fn number(out: &mut Output, n: Number) {
-    out.cells(&[n.value, n.refusal.number]);
+fn number(out: &mut Output, n: Result<u32, Refusal>) {
+    out.cells(&[n.unwrap_or(0), refusal_of(n).number]);
 }
 
 fn measured(out: &mut Output, f: Frame) {
-    let g = grid::measure(f);
+    let answer = grid::measure(f);
+    let refusal = refusal_of(answer);
+    let g = answer.unwrap_or(Grid {
+        width: 0,
+        height: 0,
+        side: 0,
+        lf_side: 0,
+        columns: 0,
+        rows: 0,
+        lf_columns: 0,
+        lf_rows: 0,
+        groups: 0,
+        lf_groups: 0,
+        sections: 0,
+    });
     out.cells(&[
         g.width,
         g.height,
@@ -71,9 +86,9 @@ fn measured(out: &mut Output, f: Frame) {
         g.groups,
         g.lf_groups,
         g.sections,
-        g.refusal.number,
+        refusal.number,
     ]);
-    out.show(g.refusal.place);
+    out.show(refusal.place);
 }
 
 fn counts(out: &mut Output, f: Frame, upsampling: u32) {
@@ -95,18 +110,32 @@ fn counts(out: &mut Output, f: Frame, upsampling: u32) {
     }
 }
 
-fn group(out: &mut Output, p: Placed, size: Size, touches: Touches) {
-    let b = p.rect;
+fn group(
+    out: &mut Output,
+    rect: Result<Rect, Refusal>,
+    size: Result<Size, Refusal>,
+    touches: Result<bool, Refusal>,
+) {
+    let b = rect.unwrap_or(Rect {
+        left: 0,
+        top: 0,
+        width: 0,
+        height: 0,
+    });
+    let c = size.unwrap_or(Size {
+        width: 0,
+        height: 0,
+    });
     out.cells(&[
         b.left,
         b.top,
         b.width,
         b.height,
-        p.refusal.number,
-        size.width,
-        size.height,
-        size.refusal.number,
-        u32::from(touches.value),
-        touches.refusal.number,
+        refusal_of(rect).number,
+        c.width,
+        c.height,
+        refusal_of(size).number,
+        u32::from(touches.unwrap_or(false)),
+        refusal_of(touches).number,
     ]);
 }

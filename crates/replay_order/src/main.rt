@@ -3,7 +3,8 @@
 // length, a number, and ten words.
 #![tactic(auto)]
 
-use replay::{Output, WORDS};
+use order::{SectionNumber, SentNumber};
+use replay::{Output, WORDS, refusal_of};
 use std::io;
 
 fn main(rt: HostRuntime) -> io::Result<()> {
@@ -42,16 +43,16 @@ fn make(r: &[u8], made: u32, length: u32, entries: &mut [u32]) {
 
 // The check, the inverse, a section's sent number through the order, and a sent number's section through the table.
 fn answers(out: &mut Output, entries: &[u32], count: u32, number: u32, table: &mut [u32]) {
-    out.refusal(order::check_order(entries, count));
+    out.refusal(refusal_of(order::check_order(entries, count)));
     let inverted = toc::invert(entries, count, table);
-    let sent = order::sent_of(entries, count, order::SectionNumber(number));
-    let section = order::section_of(table, count, order::SentNumber(number));
+    let sent = order::sent_of(entries, count, SectionNumber(number));
+    let section = order::section_of(table, count, SentNumber(number));
     out.cells(&[
         inverted.number,
-        sent.refusal.number,
-        sent.sent.0,
-        section.refusal.number,
-        section.section.0,
+        refusal_of(sent).number,
+        sent.unwrap_or(SentNumber(0)).0,
+        refusal_of(section).number,
+        section.unwrap_or(SectionNumber(0)).0,
     ]);
 }
 

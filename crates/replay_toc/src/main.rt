@@ -5,10 +5,11 @@
 // an order, at words 32 and 48.
 #![tactic(auto)]
 
+use bits::Refusal;
 use grid::Frame;
-use order::{SectionAnswer, SectionNumber, SentNumber};
-use replay::{BYTES, Output, WORDS};
-use sections::TocGroupKind;
+use order::{SectionNumber, SentNumber};
+use replay::{BYTES, Output, WORDS, refusal_of};
+use sections::{SectionPlace, TocGroupKind};
 use std::io;
 use toc::TocRead;
 
@@ -116,9 +117,8 @@ fn find(out: &mut Output, r: &[u8], f: Frame) {
         sections::section_of_kind(f, kind(k, pass_idx, group_idx)),
     );
     let a = sections::kind_of(f, SectionNumber(number));
-    let k = a.kind;
-    let n = sections::kind_numbers(k);
-    out.cells(&[a.refusal.number, n.kind, n.pass_idx, n.group_idx]);
+    let n = sections::kind_numbers(a.unwrap_or(TocGroupKind::All));
+    out.cells(&[refusal_of(a).number, n.kind, n.pass_idx, n.group_idx]);
     section(out, sections::section_of_sample(f, x, y, pass));
 }
 
@@ -135,8 +135,8 @@ fn kind(k: u32, pass_idx: u32, group_idx: u32) -> TocGroupKind {
     }
 }
 
-fn section(out: &mut Output, a: SectionAnswer) {
-    out.cells(&[a.refusal.number, a.section.0]);
+fn section(out: &mut Output, a: Result<SectionNumber, Refusal>) {
+    out.cells(&[refusal_of(a).number, a.unwrap_or(SectionNumber(0)).0]);
 }
 
 // A section's offset and size, its sent number, and the section of a sent number.
@@ -150,10 +150,15 @@ fn look(
     inverse: &[u32],
 ) {
     let p = sections::section_at(f, offsets, sizes, SectionNumber(n));
-    out.show(u64::from(p.refusal.number));
-    out.show(p.offset);
+    let place = p.unwrap_or(SectionPlace { offset: 0, size: 0 });
+    out.show(u64::from(refusal_of(p).number));
+    out.show(place.offset);
     let t = sections::sent_of_section(f, order, SectionNumber(n));
-    out.cells(&[p.size, t.refusal.number, t.sent.0]);
+    out.cells(&[
+        place.size,
+        refusal_of(t).number,
+        t.unwrap_or(SentNumber(0)).0,
+    ]);
     section(out, sections::section_of_sent(f, inverse, SentNumber(n)));
     out.end();
 }
