@@ -62,13 +62,10 @@ fn list_header(s: &[u8], facts: Facts, out: &mut [u8]) -> TextAnswer
     let mut name = [0u8; 1071];
     let mut upsampling = [0u32; 256];
     let mut blending = [0u32; 1024];
-    let h = header::read_frame_header(s, facts, &mut name, &mut upsampling, &mut blending);
-    let refusal = h.refusal;
-    if refusal.number != 0 {
-        return listing::write_refused(refusal, out);
+    match header::read_frame_header(s, facts, &mut name, &mut upsampling, &mut blending) {
+        Ok(h) => list_sections(s, h.header.frame(), h.end, out),
+        Err(refusal) => listing::write_refused(refusal, out),
     }
-    let header = h.header;
-    list_sections(s, header.frame(), h.end, out)
 }
 
 // The frame's bytes, of which the first 32,768 are used.

@@ -78,9 +78,22 @@ fn head(out: &mut Output, s: &[u8], facts: Facts) -> Beginning {
     let mut name = [0u8; 1071];
     let mut upsampling = [0u32; 256];
     let mut blending = [0u32; 1024];
-    let a = header::read_frame_header(s, facts, &mut name, &mut upsampling, &mut blending);
-    let h = a.header;
-    begun(out, a.refusal, a.end, h.frame())
+    match header::read_frame_header(s, facts, &mut name, &mut upsampling, &mut blending) {
+        Ok(read) => begun(out, bits::accepted(), read.end, read.header.frame()),
+        Err(refusal) => begun(out, refusal, 0, no_frame()),
+    }
+}
+
+// The frame of a refused header.
+fn no_frame() -> Frame {
+    Frame {
+        width: 0,
+        height: 0,
+        upsampling: 0,
+        lf_level: 0,
+        group_size_shift: 0,
+        num_passes: 0,
+    }
 }
 
 fn begun(out: &mut Output, refusal: Refusal, end: u64, f: Frame) -> Beginning {

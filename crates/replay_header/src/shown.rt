@@ -1,15 +1,19 @@
 // Every number of a header, shown where nothing was refused, and all of them in one.
-use filter::{EpfParams, Gabor};
-use header::{FrameHeader, HeaderAnswer, Passes};
+use bits::{Refusal, accepted};
+use filter::{EpfParams, Gabor, disabled_filter};
+use header::{BlendingInfo, FrameHeader, HeaderRead, Passes};
 use replay::Output;
 use types::{BlendMode, Encoding, FrameFlags, FrameType};
 
-pub fn answer(out: &mut Output, a: HeaderAnswer) {
-    let refusal = a.refusal;
+// A refused header is shown as one whose numbers are all 0.
+pub fn answer(out: &mut Output, a: Result<HeaderRead, Refusal>) {
+    let (refusal, end, h) = match a {
+        Ok(read) => (accepted(), read.end, read.header),
+        Err(refusal) => (refusal, 0, zero_header()),
+    };
     replay::refusal(out, refusal);
-    replay::show(out, a.end);
+    replay::show(out, end);
     let full = refusal.number == 0;
-    let h = a.header;
     let p = h.passes;
     let jpeg = h.jpeg_upsampling;
     let v = h.restoration_filter;
@@ -31,9 +35,8 @@ pub fn answer(out: &mut Output, a: HeaderAnswer) {
 }
 
 fn opening(out: &mut Output, full: bool, h: FrameHeader) -> u64 {
-    let kind = h.frame_type;
-    let coded = h.encoding;
-    let a = replay::sum_words(out, true, full, 0, &[frame_type(kind), encoding(coded)]);
+    let two = [u32::from(h.frame_type), u32::from(h.encoding)];
+    let a = replay::sum_words(out, true, full, 0, &two);
     let b = flags(out, full, a, h.flags);
     let two = [h.do_ycbcr as u32, h.encoded_color_channels];
     replay::sum_words(out, true, full, b, &two)
@@ -65,7 +68,6 @@ fn arrays(out: &mut Output, full: bool, sum: u64, jpeg: [u32; 3], six: [u32; 6],
 // The crop, the blending, the closing fields, and what is asked of a header. A number below 0 is 1 and k for -1 - k.
 fn closing(out: &mut Output, full: bool, sum: u64, h: FrameHeader) -> u64 {
     let i = h.blending_info;
-    let mode = i.mode;
     let f = h.frame();
     let all = [
         h.lf_level,
@@ -76,7 +78,7 @@ fn closing(out: &mut Output, full: bool, sum: u64, h: FrameHeader) -> u64 {
         replay::size(h.y0),
         h.width,
         h.height,
-        blend_mode(mode),
+        u32::from(i.mode),
         i.alpha_channel,
         i.clamp as u32,
         i.source,
@@ -128,16 +130,17 @@ fn filters(
 }
 
 pub fn questions(out: &mut Output, n: u32, bits: u64) {
-    let t = type_of(n);
-    let e = encoding_of(n);
-    let m = mode_of(n);
+    // The cases by number, the last one for any other.
+    let t = FrameType::try_from(n).unwrap_or(FrameType::SkipProgressive);
+    let e = Encoding::try_from(n).unwrap_or(Encoding::Modular);
+    let m = BlendMode::try_from(n).unwrap_or(BlendMode::Mul);
     let seven = [
-        frame_type(t),
+        u32::from(t),
         t.is_normal_frame() as u32,
         t.is_lf_frame() as u32,
         t.is_progressive_frame() as u32,
-        encoding(e),
-        blend_mode(m),
+        u32::from(e),
+        u32::from(m),
         m.use_alpha() as u32,
     ];
     let sum = replay::sum_words(out, true, true, 0, &seven);
@@ -146,68 +149,44 @@ pub fn questions(out: &mut Output, n: u32, bits: u64) {
     replay::end(out);
 }
 
-// The cases by number, the last one for any other.
-fn type_of(n: u32) -> FrameType {
-    if n == 0 {
-        return FrameType::RegularFrame;
-    }
-    if n == 1 {
-        return FrameType::LfFrame;
-    }
-    if n == 2 {
-        FrameType::ReferenceOnly
-    } else {
-        FrameType::SkipProgressive
-    }
-}
-
-fn encoding_of(n: u32) -> Encoding {
-    if n == 0 {
-        Encoding::VarDct
-    } else {
-        Encoding::Modular
-    }
-}
-
-fn mode_of(n: u32) -> BlendMode {
-    if n == 0 {
-        return BlendMode::Replace;
-    }
-    if n == 1 {
-        return BlendMode::Add;
-    }
-    if n == 2 {
-        return BlendMode::Blend;
-    }
-    if n == 3 {
-        BlendMode::MulAdd
-    } else {
-        BlendMode::Mul
-    }
-}
-
-fn frame_type(t: FrameType) -> u32 {
-    match t {
-        FrameType::RegularFrame => 0,
-        FrameType::LfFrame => 1,
-        FrameType::ReferenceOnly => 2,
-        FrameType::SkipProgressive => 3,
-    }
-}
-
-fn encoding(e: Encoding) -> u32 {
-    match e {
-        Encoding::VarDct => 0,
-        Encoding::Modular => 1,
-    }
-}
-
-fn blend_mode(m: BlendMode) -> u32 {
-    match m {
-        BlendMode::Replace => 0,
-        BlendMode::Add => 1,
-        BlendMode::Blend => 2,
-        BlendMode::MulAdd => 3,
-        BlendMode::Mul => 4,
+fn zero_header() -> FrameHeader {
+    FrameHeader {
+        frame_type: FrameType::RegularFrame,
+        encoding: Encoding::VarDct,
+        flags: FrameFlags(0),
+        do_ycbcr: false,
+        encoded_color_channels: 0,
+        jpeg_upsampling: [0; 3],
+        upsampling: 0,
+        group_size_shift: 0,
+        x_qm_scale: 0,
+        b_qm_scale: 0,
+        passes: Passes {
+            num_passes: 0,
+            num_ds: 0,
+            shift: [0; 10],
+            downsample: [0; 4],
+            last_pass: [0; 4],
+        },
+        lf_level: 0,
+        have_crop: false,
+        x0: 0,
+        y0: 0,
+        width: 0,
+        height: 0,
+        blending_info: BlendingInfo {
+            mode: BlendMode::Replace,
+            alpha_channel: 0,
+            clamp: false,
+            source: 0,
+        },
+        duration: 0,
+        timecode: 0,
+        is_last: false,
+        save_as_reference: 0,
+        resets_canvas: false,
+        save_before_ct: false,
+        name_length: 0,
+        restoration_filter: disabled_filter(),
     }
 }
