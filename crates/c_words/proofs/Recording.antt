@@ -6,7 +6,6 @@ use mathlib.Core.Bool.{Bool, true, false, ◌&&◌}
 use mathlib.Core.List.{List, [], ◌∷◌}
 use lib.Dec.{leb, ltb, eqb}
 use Rattle.std.specs.Prelude.{Result, Ok, Err}
-use Rattle.std.specs.Result.{is_ok}
 use lib.Ieee.{Float}
 use lib.IntN.{ℤ}
 use lib.ListN.{set}
@@ -21,7 +20,7 @@ use Rattle.header.specs.declared.entry.HeaderRead.{HeaderRead}
 use Rattle.header.specs.Header.{Header}
 use Rattle.header.specs.Record.{numbers_of}
 use Rattle.types.specs.Types.{frame_type_number, encoding_number, blend_mode_number}
-use Rattle.header.specs.Entry.{bad_facts, judged, told, answered, refused_header}
+use Rattle.header.specs.Entry.{bad_facts, judged, told, answered, refused_header, HeaderTold}
 use Rattle.c_words.specs.Records.{bit}
 use Rattle.c_words.specs.Heading.{front_words, back_words, front_after, arrays_after, words_after, signed_after, HandedOut, HandedBy, record_room, no_record}
 
@@ -63,9 +62,9 @@ signed_are h x y o o0 o1 ex ey e0 e1 = e1 ∙ rw (e0, ex, ey)
 pub room_is : (w s f : ℕ) (a b : Bool) → a ≡ (leb 2 s && leb 22 f) → b ≡ (leb 51 w && a) → b ≡ record_room w s f
 room_is w s f a b ea eb = eb ∙ rw ea
 
--- the record's slices, where its entry says by the answer whether something was refused
-pub handed : (a : Result HeaderRead Refusal) (word : ℕ) (words words' : List ℕ) (signed signed' : List ℤ) (floats floats' : List Float)
-    → is_ok a ≡ eqb (told a).refusal.number 0 → HandedBy a word words words' signed signed' floats floats' → HandedOut (told a) word words words' signed signed' floats floats'
+-- the record's slices, where there is an answer just where nothing is refused
+pub handed : (a : HeaderTold) (word : ℕ) (words words' : List ℕ) (signed signed' : List ℤ) (floats floats' : List Float)
+    → a.given ≡ eqb a.refusal.number 0 → HandedBy a word words words' signed signed' floats floats' → HandedOut a word words words' signed signed' floats floats'
 handed a word words words' signed signed' floats floats' e h =
     record { status = h.status; numbers = h.numbers ∙ rw e; signs = h.signs ∙ rw e; reals = h.reals ∙ rw e }
 

@@ -1,16 +1,14 @@
 -- The header entry: the order of the record's words, signed numbers and floats, and what the lent slices hold afterwards.
-use Rattle.std.specs.Prelude.{ℕ, ◌≡◌, Bool, ◌&&◌, List, [], ◌∷◌, leb, ltb, eqb, Float, ℤ, length, set, Result}
-use Rattle.std.specs.Result.{is_ok}
+use Rattle.std.specs.Prelude.{ℕ, ◌≡◌, Bool, ◌&&◌, List, [], ◌∷◌, leb, ltb, eqb, Float, ℤ, length, set}
 use Rattle.std.proofs.lemmas.List.Edits.{sets}
 use Rattle.bits.specs.declared.Refusal.{Refusal}
 use Rattle.bits.specs.Refusals.{pick, refusal}
 use Rattle.filter.specs.declared.RestorationFilter.{RestorationFilter}
 use Rattle.header.specs.declared.Facts.{Facts}
-use Rattle.header.specs.declared.entry.HeaderRead.{HeaderRead}
 use Rattle.header.specs.declared.shape.Passes.{Passes}
 use Rattle.header.specs.Blending.{words}
 use Rattle.header.specs.Record.{HeaderNumbers}
-use Rattle.header.specs.Entry.{bad_facts, judged, stands, HeaderTold, told, answered, buffer_after}
+use Rattle.header.specs.Entry.{bad_facts, judged, stands, HeaderTold, answered, buffer_after}
 use Rattle.c_words.specs.Status.{status_of}
 use Rattle.c_words.specs.Records.{bit}
 
@@ -101,12 +99,12 @@ pub record HandedOut (a : HeaderTold) (word : ℕ) (words words' : List ℕ) (si
   pub signs : signed' ≡ pick (eqb a.refusal.number 0) (signed_after a.header signed) signed
   pub reals : floats' ≡ pick (eqb a.refusal.number 0) (floats_after a.header.restoration_filter floats) floats
 
--- the same of what the header's entry answers: written where there is an answer
-pub record HandedBy (a : Result HeaderRead Refusal) (word : ℕ) (words words' : List ℕ) (signed signed' : List ℤ) (floats floats' : List Float) : Type 0 where
-  pub status : word ≡ status_of (told a).refusal
-  pub numbers : words' ≡ pick (is_ok a) (words_after (told a) words) words
-  pub signs : signed' ≡ pick (is_ok a) (signed_after (told a).header signed) signed
-  pub reals : floats' ≡ pick (is_ok a) (floats_after (told a).header.restoration_filter floats) floats
+-- the same of any answer that is told, whatever its refusal: written where there is an answer
+pub record HandedBy (a : HeaderTold) (word : ℕ) (words words' : List ℕ) (signed signed' : List ℤ) (floats floats' : List Float) : Type 0 where
+  pub status : word ≡ status_of a.refusal
+  pub numbers : words' ≡ pick a.given (words_after a words) words
+  pub signs : signed' ≡ pick a.given (signed_after a.header signed) signed
+  pub reals : floats' ≡ pick a.given (floats_after a.header.restoration_filter floats) floats
 
 -- room for 51 words, 2 signed numbers and 22 floats
 abbrev pub record_room : ℕ → ℕ → ℕ → Bool

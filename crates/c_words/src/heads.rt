@@ -159,7 +159,7 @@ pub fn give_record(
     signed: &mut [i32],
     floats: &mut [f32],
 ) -> u64
-    ensures { HandedBy a result words.old words.new signed.old signed.new floats.old floats.new }
+    ensures { HandedBy (told a) result words.old words.new signed.old signed.new floats.old floats.new }
 {
     match a {
         Ok(read) => {

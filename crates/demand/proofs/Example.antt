@@ -6,6 +6,7 @@ use mathlib.Core.Path.{◌≡◌, refl, sym, ap}
 use mathlib.Core.List.{List, [], ◌∷◌}
 use lib.ListN.{length, get_or, take, replicate}
 use Rattle.bits.specs.declared.Read.{Read}
+use Rattle.std.specs.Prelude.{Result, Ok}
 use Rattle.bits.specs.declared.Refusal.{Refusal}
 use Rattle.bits.specs.Table.{read, bind, within, times, failed}
 use Rattle.bits.specs.Codec.{field, more}
@@ -27,7 +28,7 @@ use Rattle.header.specs.Shape.{passes, scales, placement}
 use Rattle.header.specs.Arrays.{element}
 use Rattle.header.specs.Blending.{covers_side, covers_image, source_decider, has_source, blending, words}
 use Rattle.header.specs.Closing.{closing}
-use Rattle.header.specs.declared.entry.HeaderAnswer.{HeaderAnswer}
+use Rattle.header.specs.declared.entry.HeaderRead.{HeaderRead}
 use Rattle.header.specs.Entry.{judged, stands, refused_header, answered, buffer_after, Headed, HeaderTold, told}
 use Rattle.header.specs.Record.{header_of, frame_of}
 use Rattle.order.specs.Order.{is_order, checked, all_below, distinct, has as occurs}
@@ -59,8 +60,8 @@ h = stands (facts 300 100) listed
 abbrev due : HeaderTold
 due = answered (facts 300 100) before h
 
-abbrev r : HeaderAnswer
-r = record { header = header_by due.header; end = due.end; refusal = due.refusal }
+abbrev r : Result HeaderRead Refusal
+r = Ok (record { header = header_by due.header; end = due.end })
 
 abbrev a : HeaderTold
 a = told r

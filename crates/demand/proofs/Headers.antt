@@ -266,7 +266,7 @@ module _ (f : Facts) (s : List ℕ) (before : Refusal) (bounds : before.number �
   accepted = answered_by (eqb (refusal_of before (stands f s)).number 0) _ (refusal_of before (stands f s)) refl ok
 
   answer_is : ◌≡◌ {A = HeaderTold} (answered f before (stands f s))
-      (record { header = header_of f (stands f s).value.front (stands f s).value.back; end = (stands f s).next.at; refusal = none })
+      (record { given = true; header = header_of f (stands f s).value.front (stands f s).value.back; end = (stands f s).next.at; refusal = none })
   unfolding answered
   answer_is = rw accepted
 

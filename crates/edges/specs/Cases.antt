@@ -149,9 +149,9 @@ cropped x = record { lf_level = 0; have_crop = 1; x0 = x; y0 = 0; width = 301; h
 
 pub record Edges : Type 0 where
   -- P1 no bytes: 4 at 0
-  pub P1 : ◌≡◌ {A = HeaderTold} (entered (facts 300 100) []) (record { header = zero_header; end = 0; refusal = refusal 4 0 })
+  pub P1 : ◌≡◌ {A = HeaderTold} (entered (facts 300 100) []) (record { given = false; header = zero_header; end = 0; refusal = refusal 4 0 })
   -- P2 byte 01: all defaults, ends at bit 1
-  pub P2 : ◌≡◌ {A = HeaderTold} (entered (facts 300 100) (0x01 ∷ [])) (record { header = defaults; end = 1; refusal = none })
+  pub P2 : ◌≡◌ {A = HeaderTold} (entered (facts 300 100) (0x01 ∷ [])) (record { given = true; header = defaults; end = 1; refusal = none })
   -- P3 08 00 09: Modular, shift 0, last frame, ends at bit 22; widths 128, 128, 44; six sections
   pub P3 :
       let a : HeaderTold = entered (facts 300 100) (0x08 ∷ 0x00 ∷ 0x09 ∷ []) in

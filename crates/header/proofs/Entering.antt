@@ -39,7 +39,7 @@ use Rattle.header.specs.Opening.{opening, upsamplings}
 use Rattle.header.specs.Blending.{modes, covers_image, source_decider, blending, words}
 use Rattle.header.specs.Header.{Header, Begun, Ended, sent_upsampling, sends_blending, front, back, header}
 use Rattle.header.specs.Record.{HeaderNumbers, info_numbers, numbers_of, color_channels, blending_of, header_of}
-use Rattle.header.specs.Entry.{judged, stands, refused_header, answered, Headed}
+use Rattle.header.specs.Entry.{judged, stands, refusal_of, HeaderTold, told, refused_header, answered, Headed}
 use Rattle.header.proofs.Walks.{read_then, times_length, words_length, in_front}
 use Rattle.header.proofs.Columns.{front_read, back_read}
 use Rattle.header.proofs.AllDefault.{header_off}
@@ -103,7 +103,7 @@ module _ (f : Facts) (s name upsampling blending : List ℕ) where
   refused_first t e q =
       let by = refused_by before e t (eqb before.number 0) refl q in
       let no : eqb before.number 0 ≡ false = by.1 in
-      record { answer = ap refused_header (sym by.0) ∙ rw (no, no); given = rw (no, no); named = rw (no, no); upsampled = rw (no, no); blended = rw (no, no) }
+      record { answer = ap refused_header (sym by.0) ∙ rw (no, no); named = rw (no, no); upsampled = rw (no, no); blended = rw (no, no) }
 
   module _ {A : Type 0} (t u : A) (go : ◌≡◌ {A = Result A Refusal} (or_refused before t) (Ok u)) where
     yes : eqb before.number 0 ≡ true
@@ -118,8 +118,7 @@ module _ (f : Facts) (s name upsampling blending : List ℕ) where
         let ok : eqb all.next.fault.number 0 ≡ true = ap (λ (c : Cursor). eqb c.fault.number 0) (behind_one s b all pb pa one) in
         record {
           answer = d.answer ∙ rw (yes, is, ok);
-          given = rw (yes, is, ok);
-          named = rw (yes, is, ok);
+                   named = rw (yes, is, ok);
           upsampled = d.upsampled ∙ rw (yes, is, ok);
           blended = d.blended ∙ rw (yes, is, ok);
         }
@@ -135,7 +134,7 @@ module _ (f : Facts) (s name upsampling blending : List ℕ) where
         unfolding answered
         refused_later h =
             let no : eqb b.next.fault.number 0 ≡ false = ne_eqb b.next.fault.number 0 h in
-            record { answer = rw (yes, is, no); given = rw (yes, is, no); named = rw (yes, is, no); upsampled = rw (yes, is, no); blended = rw (yes, is, no) }
+            record { answer = rw (yes, is, no); named = rw (yes, is, no); upsampled = rw (yes, is, no); blended = rw (yes, is, no) }
 
         -- accepted
         pub accepted_all : b.next.fault.number ≡ 0 → (r : HeaderRead) (name' upsampling' blending' : List ℕ) → Filled f s a b r name name' upsampling upsampling' blending blending'
@@ -146,11 +145,24 @@ module _ (f : Facts) (s name upsampling blending : List ℕ) where
             let all = header_law f s a b w w' x x' fa fb in
             record {
               answer = fl.answer ∙ rw (yes, all, ok);
-              given = rw (yes, all, ok);
-              named = fl.named ∙ rw (yes, all, ok);
+                           named = fl.named ∙ rw (yes, all, ok);
               upsampled = fl.channels.upsampled ∙ rw (yes, all, ok);
               blended = fl.channels.blended ∙ rw (yes, all, ok);
             }
+
+-- there is an answer just where what is told has no refusal's number
+told_number : (r : Refusal) (x : HeaderTold) (b : Bool) → x.given ≡ true → x.refusal.number ≡ 0 → eqb r.number 0 ≡ b
+    → (pick b x (refused_header r)).given ≡ eqb (pick b x (refused_header r)).refusal.number 0
+unfolding refused_header
+told_number r x true g z e = rw (g, z)
+told_number r x false g z e = sym e
+
+pub headed_number : (f : Facts) (s : List ℕ) (r : Result HeaderRead Refusal) (name name' upsampling upsampling' blending blending' : List ℕ)
+    → Headed f s r name name' upsampling upsampling' blending blending' → (told r).given ≡ eqb (told r).refusal.number 0
+unfolding answered
+headed_number f s r name name' upsampling upsampling' blending blending' h =
+    let own = refusal_of (judged (length s) f (length name) (length upsampling) (length blending)) (stands f s) in
+    rw h.answer (told_number own _ (eqb own.number 0) refl refl refl)
 
 -- what a table of eight words for the upsampling and one of 32 for the blending keep of up to eight extra channels
 pub kept_by : (f : Facts) (s : List ℕ) (a : FrontRead) (b : BackRead) (w w' x x' : List ℕ) → length w ≡ 8 → length x ≡ 32 → Fronted f s a w w'

@@ -1,6 +1,5 @@
 -- The entry: what it refuses, what it answers, and what the lent buffers hold after it.
-use Rattle.std.specs.Prelude.{ℕ, ◌*◌, ◌≡◌, Bool, ◌||◌, List, ltb, eqb, length, Result, Ok, Err}
-use Rattle.std.specs.Result.{is_ok}
+use Rattle.std.specs.Prelude.{ℕ, ◌*◌, ◌≡◌, Bool, true, false, ◌||◌, List, ltb, eqb, length, Result, Ok, Err}
 use Rattle.std.proofs.lemmas.List.Edits.{sets}
 use Rattle.bits.specs.declared.Read.{Read}
 use Rattle.bits.specs.declared.Refusal.{Refusal}
@@ -33,34 +32,34 @@ stands f s = read (header f) s (start 0)
 abbrev pub refusal_of : Refusal → Read Header → Refusal
 refusal_of before h = pick (eqb before.number 0) h.next.fault before
 
--- what an answer says, its enums by their numbers
+-- what an answer says, its enums by their numbers: whether there is one, and the record or the refusal
 pub record HeaderTold : Type 0 where
+  pub given : Bool
   pub header : HeaderNumbers
   pub end : ℕ
   pub refusal : Refusal
 
 unfoldable pub refused_header : Refusal → HeaderTold
-refused_header r = record { header = zero_header; end = 0; refusal = r }
+refused_header r = record { given = false; header = zero_header; end = 0; refusal = r }
 
 abbrev pub told : Result HeaderRead Refusal → HeaderTold
-told (Ok a) = record { header = numbers_of a.header; end = a.end; refusal = none }
+told (Ok a) = record { given = true; header = numbers_of a.header; end = a.end; refusal = none }
 told (Err r) = refused_header r
 
 -- the record and the place after the last field, or the refusal beside the zero record
 unfoldable pub answered : Facts → Refusal → Read Header → HeaderTold
 answered f before h =
     pick (eqb (refusal_of before h).number 0)
-    (record { header = header_of f h.value.front h.value.back; end = h.next.at; refusal = none })
+    (record { given = true; header = header_of f h.value.front h.value.back; end = h.next.at; refusal = none })
     (refused_header (refusal_of before h))
 
 -- a lent buffer: its first places hold what was read, the others stay; on a refusal all stay
 abbrev pub buffer_after : Refusal → Read Header → List ℕ → List ℕ → List ℕ
 buffer_after before h new buffer = pick (eqb (refusal_of before h).number 0) (sets buffer 0 new) buffer
 
--- what the entry promises: its answer, whether there is one, and every lent buffer
+-- what the entry promises: its answer, and every lent buffer
 pub record Headed (f : Facts) (s : List ℕ) (r : Result HeaderRead Refusal) (name name' upsampling upsampling' blending blending' : List ℕ) : Type 0 where
   pub answer : told r ≡ answered f (judged (length s) f (length name) (length upsampling) (length blending)) (stands f s)
-  pub given : is_ok r ≡ eqb (refusal_of (judged (length s) f (length name) (length upsampling) (length blending)) (stands f s)).number 0
   pub named : name' ≡ buffer_after (judged (length s) f (length name) (length upsampling) (length blending)) (stands f s) (stands f s).value.name name
   pub upsampled : upsampling' ≡ buffer_after (judged (length s) f (length name) (length upsampling) (length blending)) (stands f s) (stands f s).value.upsampling upsampling
   pub blended : blending' ≡ buffer_after (judged (length s) f (length name) (length upsampling) (length blending)) (stands f s) (words (stands f s).value.blending) blending

@@ -128,12 +128,12 @@ pub record ChannelsGiven (f : Facts) (s : List ℕ) (a : FrontRead) (b : BackRea
 
 -- what is answered of a header that was read in two parts: the record, and the arrays in front of the lent buffers
 pub record Filled (f : Facts) (s : List ℕ) (a : FrontRead) (b : BackRead) (r : HeaderRead) (name name' upsampling upsampling' blending blending' : List ℕ) : Type 0 where
-  pub answer : told (Ok r) ≡ record { header = header_of f a.value b.value; end = b.next.at; refusal = none }
+  pub answer : told (Ok r) ≡ record { given = true; header = header_of f a.value b.value; end = b.next.at; refusal = none }
   pub named : name' ≡ sets name 0 (read (array (u 8) b.value.closing.name_length b.value.closing.name_length 0 (λ (x : List ℕ) (i : ℕ). 0)) s b.name_at).value
   pub channels : ChannelsGiven f s a b upsampling upsampling' blending blending'
 
 -- what is answered: the record, the place behind that bit, and for each extra channel upsampling 1 and blending 0, 0, 0, 0
 pub record Defaulted (f : Facts) (at : ℕ) (r : HeaderRead) (upsampling upsampling' blending blending' : List ℕ) : Type 0 where
-  pub answer : told (Ok r) ≡ record { header = header_of f (default_front f) default_back; end = at; refusal = none }
+  pub answer : told (Ok r) ≡ record { given = true; header = header_of f (default_front f) default_back; end = at; refusal = none }
   pub upsampled : upsampling' ≡ sets upsampling 0 (replicate f.extra 1)
   pub blended : blending' ≡ sets blending 0 (words (replicate f.extra no_blending))

@@ -8,8 +8,8 @@ use mathlib.Core.Bool.{true, false}
 use mathlib.Core.List.{List}
 use lib.ListN.{length, take, drop, length-take, length-drop}
 use lib.Seq.{take_all, take_at}
-use borrow.Author.Tests.{eq-eqb, ne_eqb, le-leb}
-use Rattle.std.specs.Prelude.{Result}
+use borrow.Author.Tests.{eq-eqb, le-leb, not-true, not-false}
+use Rattle.std.specs.Prelude.{Result, Ok, Err}
 use Rattle.bits.specs.declared.Refusal.{Refusal}
 use Rattle.bits.specs.Refusals.{refusal}
 use Rattle.grid.specs.declared.Frame.{Frame}
@@ -20,9 +20,10 @@ use Rattle.order.proofs.Tables.{filled_length}
 use Rattle.order.proofs.Reach.{order_length}
 use Rattle.order.proofs.Checked.{checked_good}
 use Rattle.header.specs.declared.Facts.{Facts}
-use Rattle.header.specs.declared.entry.HeaderAnswer.{HeaderAnswer}
+use Rattle.header.specs.declared.entry.HeaderRead.{HeaderRead}
 use Rattle.header.specs.Record.{numbers_of, frame_of}
-use Rattle.header.specs.Entry.{told}
+use Rattle.header.specs.Entry.{told, refused_header}
+use Rattle.std.specs.Prelude.{Ok, Err, eqb}
 use Rattle.toc.specs.declared.Toc.{Toc}
 use Rattle.toc.specs.declared.TocRead.{TocRead}
 use Rattle.toc.specs.declared.TocRead.TheVariants.{Table, OrderNeeded, Refused}
@@ -119,18 +120,19 @@ module _ (s : List ℕ) (f : Frame) (place : ℕ) (t : TocRead) (o z p i : List 
 
 -- ---- the header
 
-module _ {out' : List ℕ} (s : List ℕ) (facts : Facts) (h : HeaderAnswer) (e : told h ≡ headed s facts) (out : List ℕ) (a : Result ℕ Refusal) where
-  pub header_refused : (h.refusal.number ≡ 0 → ⊥) → Texted (fitted (refused_text h.refusal) out) (refused_text h.refusal) out a out'
+module _ {out' : List ℕ} (s : List ℕ) (facts : Facts) (out : List ℕ) (a : Result ℕ Refusal) where
+  pub header_refused : (r : Refusal) → told (Err r) ≡ headed s facts → (told (Err r)).given ≡ eqb (told (Err r)).refusal.number 0 → Texted (fitted (refused_text r) out) (refused_text r) out a out'
       → Texted (fitted (header_text s facts) out) (header_text s facts) out a out'
-  unfolding header_text
-  header_refused n w = line_is (refused_text h.refusal) (header_text s facts) out a (sym (rw (← e, ne_eqb h.refusal.number 0 n))) w
+  unfolding header_text refused_header
+  header_refused r e n w = line_is (refused_text r) (header_text s facts) out a (sym (rw (← e, ← n))) w
 
-  pub header_read : (f : Frame) → f ≡ frame_of (numbers_of h.header) → h.refusal.number ≡ 0 → Texted (fitted (sections_text s f h.end) out) (sections_text s f h.end) out a out'
+  pub header_read : (h : HeaderRead) (f : Frame) → f ≡ frame_of (numbers_of h.header) → told (Ok h) ≡ headed s facts
+      → Texted (fitted (sections_text s f h.end) out) (sections_text s f h.end) out a out'
       → Texted (fitted (header_text s facts) out) (header_text s facts) out a out'
   unfolding header_text
-  header_read f ef z w =
+  header_read h f ef e w =
       line_is (sections_text s f h.end) (header_text s facts) out a
-      (ap (λ (x : Frame). sections_text s x h.end) ef ∙ sym (rw (← e, eq-eqb h.refusal.number 0 z))) w
+      (ap (λ (x : Frame). sections_text s x h.end) ef ∙ sym (rw (← e))) w
 
 -- ---- the bytes
 

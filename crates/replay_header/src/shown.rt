@@ -1,14 +1,18 @@
 // Every number of a header, shown where nothing was refused, and all of them in one.
-use filter::RestorationFilter;
-use header::{FrameHeader, HeaderAnswer};
+use bits::Refusal;
+use filter::{RestorationFilter, disabled_filter};
+use header::{BlendingInfo, FrameHeader, HeaderRead, Passes};
 use replay::{Output, Tally};
 use types::{BlendMode, Encoding, FrameFlags, FrameType};
 
-pub fn answer(out: &mut Output, a: HeaderAnswer) {
-    let refusal = a.refusal;
+// A refused header is shown as one whose numbers are all 0.
+pub fn answer(out: &mut Output, a: Result<HeaderRead, Refusal>) {
+    let (refusal, end, h) = match a {
+        Ok(read) => (bits::accepted(), read.end, read.header),
+        Err(refusal) => (refusal, 0, zero_header()),
+    };
     out.refusal(refusal);
-    out.show(a.end);
-    let h = a.header;
+    out.show(end);
     let mut all = Tally {
         big: true,
         full: refusal.number == 0,
@@ -22,7 +26,7 @@ pub fn answer(out: &mut Output, a: HeaderAnswer) {
 }
 
 fn opening(out: &mut Output, all: &mut Tally, h: FrameHeader) {
-    all.add_shown(out, &[h.frame_type as u32, h.encoding as u32]);
+    all.add_shown(out, &[u32::from(h.frame_type), u32::from(h.encoding)]);
     flags(out, all, h.flags);
     all.add_shown(out, &[u32::from(h.do_ycbcr), h.encoded_color_channels]);
 }
@@ -69,7 +73,7 @@ fn closing(out: &mut Output, all: &mut Tally, h: FrameHeader) {
         replay::size(h.y0),
         h.width,
         h.height,
-        i.mode as u32,
+        u32::from(i.mode),
         i.alpha_channel,
         u32::from(i.clamp),
         i.source,
@@ -165,5 +169,47 @@ fn mode_of(n: u32) -> BlendMode {
         2 => BlendMode::Blend,
         3 => BlendMode::MulAdd,
         _ => BlendMode::Mul,
+    }
+}
+
+fn zero_header() -> FrameHeader {
+    FrameHeader {
+        frame_type: FrameType::RegularFrame,
+        encoding: Encoding::VarDct,
+        flags: FrameFlags(0),
+        do_ycbcr: false,
+        encoded_color_channels: 0,
+        jpeg_upsampling: [0; 3],
+        upsampling: 0,
+        group_size_shift: 0,
+        x_qm_scale: 0,
+        b_qm_scale: 0,
+        passes: Passes {
+            num_passes: 0,
+            num_ds: 0,
+            shift: [0; 10],
+            downsample: [0; 4],
+            last_pass: [0; 4],
+        },
+        lf_level: 0,
+        have_crop: false,
+        x0: 0,
+        y0: 0,
+        width: 0,
+        height: 0,
+        blending_info: BlendingInfo {
+            mode: BlendMode::Replace,
+            alpha_channel: 0,
+            clamp: false,
+            source: 0,
+        },
+        duration: 0,
+        timecode: 0,
+        is_last: false,
+        save_as_reference: 0,
+        resets_canvas: false,
+        save_before_ct: false,
+        name_length: 0,
+        restoration_filter: disabled_filter(),
     }
 }

@@ -7,6 +7,7 @@ use mathlib.Core.List.{List}
 use mathlib.Core.Bool.{Bool, true, false}
 use lib.Dec.{eqb, ltb}
 use lib.ListN.{length}
+use Rattle.std.specs.Prelude.{Result}
 use Rattle.bits.specs.declared.Refusal.{Refusal}
 use Rattle.bits.specs.Refusals.{pick, refusal, none}
 use Rattle.bits.specs.Bits.{bit_count}
@@ -17,14 +18,14 @@ use Rattle.header.specs.declared.Facts.{Facts}
 use Rattle.header.specs.declared.opening.Opening.{Opening}
 use Rattle.header.specs.declared.shape.Placement.{Placement}
 use Rattle.header.specs.declared.blending.Decider.{Decider}
-use Rattle.header.specs.declared.entry.HeaderAnswer.{HeaderAnswer}
+use Rattle.header.specs.declared.entry.HeaderRead.{HeaderRead}
 use Rattle.header.specs.Arrays.{element, array}
 use Rattle.header.specs.Opening.{opening}
 use Rattle.header.specs.Shape.{passes, scales, placement}
 use Rattle.header.specs.Blending.{blending, words}
 use Rattle.header.specs.Closing.{closing}
 use Rattle.header.specs.Header.{front, back, header}
-use Rattle.header.specs.Record.{numbers_of, zero_header}
+use Rattle.header.specs.Record.{zero_header}
 use Rattle.header.specs.Entry.{bad_facts, no_room, judged, stands, refusal_of, HeaderTold, told, refused_header, answered, buffer_after, Headed}
 use Rattle.order.proofs.Entries.{split}
 use Rattle.theorems.specs.Refusing.{Refuses, Ends, header_said, of_facts, of_header, of_filter}
@@ -139,23 +140,23 @@ module _ (f : Facts) (s : List ℕ) (before : Refusal) (own : Refuses of_facts 0
     pub buffer_kept : (new buffer : List ℕ) → buffer_after before (stands f s) new buffer ≡ buffer
     buffer_kept new buffer = rw stopped
 
-pub read_frame_header : (f : Facts) (s : List ℕ) (r : HeaderAnswer) (name name' upsampling upsampling' blending blending' : List ℕ)
+pub read_frame_header : (f : Facts) (s : List ℕ) (r : Result HeaderRead Refusal) (name name' upsampling upsampling' blending blending' : List ℕ)
     → Headed f s r name name' upsampling upsampling' blending blending'
-    → Ends of_header (bit_count s) r.refusal (header_said zero_header 0 name upsampling blending)
-    (header_said (numbers_of r.header) r.end name' upsampling' blending')
+    → Ends of_header (bit_count s) (told r).refusal (header_said zero_header 0 name upsampling blending)
+    (header_said (told r).header (told r).end name' upsampling' blending')
 unfolding refused_header
 read_frame_header f s r name name' upsampling upsampling' blending blending' h =
     let before : Refusal = judged (length s) f (length name) (length upsampling) (length blending) in
     let own = judge_header (length s) f (length name) (length upsampling) (length blending) in
-    let is : r.refusal ≡ (answered f before (stands f s)).refusal = ap (λ (a : HeaderTold). a.refusal) h.answer in
+    let is : (told r).refusal ≡ (answered f before (stands f s)).refusal = ap (λ (a : HeaderTold). a.refusal) h.answer in
     record {
       refuses = rw is (answered_refuses f s before own);
       either =
           λ some'.
           let some : (answered f before (stands f s)).refusal.number ≡ 0 → ⊥ = λ z. some' (ap (λ (x : Refusal). x.number) is ∙ z) in
           let zero : told r ≡ refused_header (refusal_of before (stands f s)) = h.answer ∙ answered_zero f s before own some in
-          let head : numbers_of r.header ≡ zero_header = ap (λ (a : HeaderTold). a.header) zero in
-          let end : r.end ≡ 0 = ap (λ (a : HeaderTold). a.end) zero in
+          let head : (told r).header ≡ zero_header = ap (λ (a : HeaderTold). a.header) zero in
+          let end : (told r).end ≡ 0 = ap (λ (a : HeaderTold). a.end) zero in
           let n : name' ≡ name = h.named ∙ buffer_kept f s before own some (stands f s).value.name name in
           let u : upsampling' ≡ upsampling = h.upsampled ∙ buffer_kept f s before own some (stands f s).value.upsampling upsampling in
           let b : blending' ≡ blending = h.blended ∙ buffer_kept f s before own some (words (stands f s).value.blending) blending in

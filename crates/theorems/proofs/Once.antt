@@ -3,6 +3,7 @@ use Prim.Native.Nat.{ℕ}
 use mathlib.Core.Path.{◌≡◌, refl, sym, ◌∙◌, ap}
 use mathlib.Core.List.{List}
 use lib.Dec.{eqb}
+use Rattle.std.specs.Prelude.{Result, Ok, Err, true, false}
 use lib.Ieee.{Float}
 use lib.IntN.{ℤ}
 use Rattle.std.specs.Prelude.{Result}
@@ -10,11 +11,11 @@ use Rattle.bits.specs.declared.Refusal.{Refusal}
 use Rattle.bits.specs.Refusals.{pick}
 use Rattle.bits.proofs.Once.{once}
 use Rattle.header.specs.declared.Facts.{Facts}
-use Rattle.header.specs.declared.entry.HeaderAnswer.{HeaderAnswer}
+use Rattle.header.specs.declared.entry.HeaderRead.{HeaderRead}
 use Rattle.header.specs.declared.FrameHeader.{FrameHeader}
 use Rattle.header.specs.declared.blending.BlendingInfo.{BlendingInfo}
 use Rattle.header.specs.Record.{BlendingNumbers, HeaderNumbers, numbers_of}
-use Rattle.header.specs.Entry.{HeaderTold, told, Headed}
+use Rattle.header.specs.Entry.{HeaderTold, told, refused_header, Headed}
 use Rattle.types.specs.declared.FrameType.{FrameType}
 use Rattle.types.specs.declared.FrameType.TheVariants.{RegularFrame, LfFrame, ReferenceOnly, SkipProgressive}
 use Rattle.types.specs.declared.Encoding.{Encoding}
@@ -99,13 +100,17 @@ header_by h = record {
 header_by_lem : (h : FrameHeader) → header_by (numbers_of h) ≡ h
 header_by_lem h = rw (type_by_lem h.frame_type, encoding_by_lem h.encoding, mode_by_lem h.blending_info.mode)
 
-pub same_header : (x y : HeaderAnswer) → told x ≡ told y → x ≡ y
-same_header x y e =
+pub same_header : (x y : Result HeaderRead Refusal) → told x ≡ told y → x ≡ y
+unfolding refused_header
+same_header (Ok x) (Ok y) e =
     let same : x.header ≡ y.header = sym (header_by_lem x.header) ∙ ap (λ (t : HeaderTold). header_by t.header) e ∙ header_by_lem y.header in
-    λ i. record { header = same i; end = (e i).end; refusal = (e i).refusal }
+    λ i. Ok (record { header = same i; end = (e i).end })
+same_header (Err x) (Err y) e = λ i. Err (e i).refusal
+same_header (Ok x) (Err y) e = let no : true ≡ false = ap (λ (t : HeaderTold). t.given) e in cc
+same_header (Err x) (Ok y) e = let no : false ≡ true = ap (λ (t : HeaderTold). t.given) e in cc
 
 -- the header entry
-pub headed_once : (f : Facts) (s : List ℕ) (x y : HeaderAnswer) (name upsampling blending n u b n' u' b' : List ℕ)
+pub headed_once : (f : Facts) (s : List ℕ) (x y : Result HeaderRead Refusal) (name upsampling blending n u b n' u' b' : List ℕ)
     → Headed f s x name n upsampling u blending b → Headed f s y name n' upsampling u' blending b'
     → (x ≡ y) × (n ≡ n') × (u ≡ u') × (b ≡ b')
 headed_once f s x y name upsampling blending n u b n' u' b' p q =

@@ -17,9 +17,9 @@ use Rattle.grid.specs.declared.Rect.{Rect}
 use Rattle.grid.specs.Measured.{grid_of}
 use Rattle.grid.specs.Groups.{sampled, told, rect_for, size_of, lf_index_of, index_for, touch_for}
 use Rattle.header.specs.declared.Facts.{Facts}
-use Rattle.header.specs.declared.entry.HeaderAnswer.{HeaderAnswer}
-use Rattle.header.specs.Record.{numbers_of, zero_header}
-use Rattle.header.specs.Entry.{judged, Headed}
+use Rattle.header.specs.declared.entry.HeaderRead.{HeaderRead}
+use Rattle.header.specs.Record.{zero_header}
+use Rattle.header.specs.Entry.{judged, told as header_told, Headed}
 use Rattle.order.specs.declared.SectionNumber.{SectionNumber}
 use Rattle.order.specs.declared.SentNumber.{SentNumber}
 use Rattle.order.specs.Order.{checked}
@@ -86,10 +86,10 @@ pub record EveryFunction : Type 0 where
       → Done (second_reading s f place lent t) t result o z p i → Tells of_toc_order false (bit_count s) t (tables o z p i) result
   -- the header
   pub judge_header : (n : ℕ) (f : Facts) (name upsampling blending : ℕ) → Refuses of_facts 0 (judged n f name upsampling blending)
-  pub read_frame_header : (f : Facts) (s : List ℕ) (r : HeaderAnswer) (name name' upsampling upsampling' blending blending' : List ℕ)
+  pub read_frame_header : (f : Facts) (s : List ℕ) (r : Result HeaderRead Refusal) (name name' upsampling upsampling' blending blending' : List ℕ)
       → Headed f s r name name' upsampling upsampling' blending blending'
-      → Ends of_header (bit_count s) r.refusal (header_said zero_header 0 name upsampling blending)
-      (header_said (numbers_of r.header) r.end name' upsampling' blending')
+      → Ends of_header (bit_count s) (header_told r).refusal (header_said zero_header 0 name upsampling blending)
+      (header_said (header_told r).header (header_told r).end name' upsampling' blending')
   -- texts; `list_frame` with any text
   pub write_refused : (r : Refusal) (before : List ℕ) (a : Result ℕ Refusal) (after : List ℕ)
       → Texted (fitted (refused_text r) before) (refused_text r) before a after → TextEnds of_text a before after
