@@ -1,15 +1,7 @@
 -- Laws of the whole job: each way out writes the text that the definition names.
-use Prim.Native.Nat.{ℕ, ◌-◌, ◌≤◌, min}
-use native.Mathlib.Omega.{arith}
+use Rattle.std.proofs.Common.{ℕ, ◌-◌, ◌≤◌, min, arith, ◌≡◌, sym, ◌∙◌, ap, true, false, List, length, take, drop, length-take, length-drop, take_all, take_at, eq-eqb, ne_eqb, le-leb, Result}
 use native.Mathlib.Decide.{dec_le}
-use mathlib.Core.Path.{◌≡◌, sym, ◌∙◌, ap}
 use mathlib.Core.Logic.{by_cases}
-use mathlib.Core.Bool.{true, false}
-use mathlib.Core.List.{List}
-use lib.ListN.{length, take, drop, length-take, length-drop}
-use lib.Seq.{take_all, take_at}
-use borrow.Author.Tests.{eq-eqb, ne_eqb, le-leb}
-use Rattle.std.specs.Prelude.{Result}
 use Rattle.bits.specs.declared.Refusal.{Refusal}
 use Rattle.bits.specs.Refusals.{refusal}
 use Rattle.grid.specs.declared.Frame.{Frame}

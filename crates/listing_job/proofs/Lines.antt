@@ -1,17 +1,8 @@
 -- Laws of the facts line: its numbers one after another, and the facts that they stand for.
-use Prim.Native.Nat.{ℕ, zero, suc, ◌+◌, ◌≤◌, ◌<◌}
-use native.Mathlib.Omega.{arith}
+use Rattle.std.proofs.Common.{ℕ, zero, suc, ◌+◌, ◌≤◌, ◌<◌, arith, add-one, ◌≡◌, refl, sym, ◌∙◌, ap, true, false, List, [], ◌∷◌, append-nil, ltb, length, get_or, set, drop, drop_of_length-le, drop-cons, lt-ltb, le-ltb, Some, None}
 use native.Mathlib.Decide.{dec_le}
-use native.Mathlib.Numerals.{add-one}
-use mathlib.Core.Path.{◌≡◌, refl, sym, ◌∙◌, ap}
 use mathlib.Core.Logic.{by_cases}
-use mathlib.Core.Bool.{true, false}
-use mathlib.Core.List.{List, [], ◌∷◌, append-nil}
-use lib.Dec.{ltb}
-use lib.ListN.{length, get_or, set, drop, drop_of_length-le}
-use lib.Seq.{sets, drop-cons, drop-length, sets-eq}
-use borrow.Author.Tests.{lt-ltb, le-ltb}
-use Rattle.std.specs.Prelude.{Some, None}
+use lib.Seq.{sets, drop-length, sets-eq}
 use Rattle.bits.specs.Refusals.{pick}
 use Rattle.fill.proofs.Filling.{Filling, filling_none, filling_more, filling_all}
 use Rattle.decimal.specs.declared.Step.{Step}

@@ -1,7 +1,5 @@
 -- `list_table`: the order's first words.
-use Prim.Native.Nat.{min}
-use native.Mathlib.Omega.{arith}
-use lib.ListN.{length}
+use Rattle.std.proofs.Common.{min, arith, length}
 use Rattle.listing_job.proofs.Jobs.{table_text, least_long}
 use Rattle.listing_job.proofs.list_table.Goals as goal
 

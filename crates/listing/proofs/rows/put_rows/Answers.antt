@@ -1,5 +1,5 @@
 -- `put_rows`: the lines from section i on are still to be put.
-use native.Mathlib.Omega.{arith}
+use Rattle.std.proofs.Common.{arith}
 use Rattle.listing.specs.Listed.{row_at}
 use Rattle.listing.proofs.Walks.{lists_all, lists_less, lists_none}
 use Rattle.listing.proofs.rows.put_rows.Goals as goal

@@ -1,6 +1,5 @@
 -- `sum_sizes`: the sum of the sizes so far.
-use native.Mathlib.Omega.{arith}
-use mathlib.Core.Path.{◌∙◌}
+use Rattle.std.proofs.Common.{arith, ◌∙◌}
 use Rattle.listing.proofs.Showing.{sums_none, sums_more, sums_all}
 use Rattle.listing.proofs.rows.sum_sizes.Goals as goal
 

@@ -1,6 +1,5 @@
 -- `facts_line`: each number is within its limit, and each fact is its number's.
-use native.Mathlib.Omega.{arith}
-use mathlib.Core.Path.{refl}
+use Rattle.std.proofs.Common.{arith, refl}
 use Rattle.listing_job.specs.Line.{limits, facts_from}
 use Rattle.listing_job.proofs.Lines.{values_fit, lined}
 use Rattle.listing_job.proofs.facts.facts_line.Goals as goal

@@ -1,6 +1,5 @@
 -- `read_line`: what is left of the walk is what is left of the line.
-use native.Mathlib.Omega.{arith}
-use mathlib.Core.Path.{refl, sym}
+use Rattle.std.proofs.Common.{arith, refl, sym}
 use Rattle.listing_job.proofs.Lines.{reads_none, reads_bad, reads_more, reads_all}
 use Rattle.listing_job.proofs.facts.read_line.Goals as goal
 
