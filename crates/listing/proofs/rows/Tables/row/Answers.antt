@@ -1,10 +1,10 @@
--- `row_at`: the kind is told whole by its numbers.
+-- `row`: the kind is told whole by its numbers.
 use Rattle.listing.specs.Listed.{row_at}
 use Rattle.listing.proofs.Showing.{kind_is}
-use Rattle.listing.proofs.rows.row_at.Goals as goal
+use Rattle.listing.proofs.rows.Tables.row.Goals as goal
 
 pub returns : goal.returns
 unfolding row_at
 returns c =
-    let kind = kind_is c.args.f c.args.i c.kind_of-kind.result c.kind_of-kind.ensures in
+    let kind = kind_is c.args.self.now.frame c.args.i c.kind_of-kind.result c.kind_of-kind.ensures in
     rw (c.rect_of.ensures, kind, c.word.ensures, c.word-2.ensures, c.word-3.ensures)
