@@ -1,18 +1,7 @@
 -- Laws of a number within a text: the byte that ends it, what stands before that and what stands behind.
-use Prim.Native.Nat.{ℕ, suc, ◌+◌, ◌-◌, ◌≤◌, ◌<◌, max}
-use native.Mathlib.Omega.{arith}
+use Rattle.std.proofs.Common.{ℕ, suc, ◌+◌, ◌-◌, ◌≤◌, ◌<◌, max, arith, add-zero, add-one, ◌≡◌, refl, sym, ◌∙◌, ap, Bool, true, false, ◌&&◌, List, [], ◌∷◌, eqb, leb, length, get_or, take, drop, length-drop, drop_of_length-le, drop-cons, drop-drop, eq-eqb, ne_eqb, lt-ltb, le-ltb, leb-true, Option, Some, None}
 use native.Mathlib.Decide.{dec_le}
-use native.Mathlib.Nat.{add-zero}
-use native.Mathlib.Numerals.{add-one}
-use mathlib.Core.Path.{◌≡◌, refl, sym, ◌∙◌, ap}
 use mathlib.Core.Logic.{by_cases}
-use mathlib.Core.Bool.{Bool, true, false, ◌&&◌}
-use mathlib.Core.List.{List, [], ◌∷◌}
-use lib.Dec.{eqb, leb}
-use lib.ListN.{length, get_or, take, drop, length-drop, drop_of_length-le}
-use lib.Seq.{drop-cons, drop-drop}
-use borrow.Author.Tests.{eq-eqb, ne_eqb, lt-ltb, le-ltb, leb-true}
-use Rattle.std.specs.Prelude.{Option, Some, None}
 use Rattle.bits.specs.Refusals.{pick}
 use Rattle.decimal.specs.declared.Step.{Step}
 use Rattle.decimal.specs.Decimal.{Parsed, told, parsed, judged, good, bad, leads, digits_alone, value_from}

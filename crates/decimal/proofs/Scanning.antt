@@ -1,14 +1,8 @@
 -- Laws of reading a number: what is left of a text, one digit further, and what makes it bad.
-use Prim.Native.Nat.{ℕ, suc, ◌+◌, ◌-◌, ◌*◌, ◌≤◌, ◌<◌}
-use native.Mathlib.Omega.{arith}
-use mathlib.Core.Path.{◌≡◌, refl, sym, ◌∙◌, ap}
-use mathlib.Core.Bool.{true, false, not, and-false}
-use mathlib.Core.List.{List, [], ◌∷◌}
-use lib.Dec.{leb, eqb}
-use lib.ListN.{length, get_or, drop}
-use lib.Seq.{drop-cons, drop-length}
-use native.Mathlib.Numerals.{add-one}
-use borrow.Author.Tests.{le-leb, lt-leb, leb-true, leb-false}
+use Rattle.std.proofs.Common.{ℕ, suc, ◌+◌, ◌-◌, ◌*◌, ◌≤◌, ◌<◌, arith, ◌≡◌, refl, sym, ◌∙◌, ap, true, false, not, List, [], ◌∷◌, leb, eqb, length, get_or, drop, drop-cons, add-one, le-leb, leb-true, leb-false}
+use mathlib.Core.Bool.{and-false}
+use lib.Seq.{drop-length}
+use borrow.Author.Tests.{lt-leb}
 use Rattle.decimal.specs.Decimal.{is_digit, digits_alone, leads, value_from, judged, parsed, good, bad}
 
 -- digits only make a number larger

@@ -1,5 +1,5 @@
 -- `find`: from each index reached on, the first such byte is the same one.
-use mathlib.Core.Path.{sym, ◌∙◌}
+use Rattle.std.proofs.Common.{sym, ◌∙◌}
 use Rattle.decimal.proofs.Finding.{find_here, find_further, find_none}
 use Rattle.decimal.proofs.find.Goals as goal
 

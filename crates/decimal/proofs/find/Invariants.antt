@@ -1,5 +1,5 @@
 -- `find`: from each index reached on, the first such byte is the same one.
-use mathlib.Core.Path.{◌≡◌}
+use Rattle.std.proofs.Common.{◌≡◌}
 use Rattle.decimal.specs.UpTo.{find_at}
 use Rattle.decimal.proofs.find.Given as goal
 

@@ -1,5 +1,5 @@
 -- `leads`: by the length.
-use native.Mathlib.Omega.{arith}
+use Rattle.std.proofs.Common.{arith}
 use Rattle.decimal.proofs.Scanning.{leads_none, leads_one, leads_many}
 use Rattle.decimal.proofs.leads.Goals as goal
 

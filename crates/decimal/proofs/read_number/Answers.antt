@@ -1,5 +1,5 @@
 -- `read_number`: what is left of the text is what the definition has left to judge.
-use mathlib.Core.Path.{refl, sym, ◌∙◌, ap}
+use Rattle.std.proofs.Common.{refl, sym, ◌∙◌, ap}
 use Rattle.decimal.specs.Decimal.{told}
 use Rattle.decimal.proofs.Scanning.{scans_none, headless, scans_end, scans_other, scans_large, scans_more}
 use Rattle.decimal.proofs.read_number.Goals as goal

@@ -1,5 +1,5 @@
 -- `write_number`: the digits of what is left are still to stand in front of what is written.
-use native.Mathlib.Omega.{arith}
+use Rattle.std.proofs.Common.{arith}
 use Rattle.decimal.proofs.Spelling.{spells_none, spells_more, spells_last}
 use Rattle.decimal.proofs.write_number.Goals as goal
 
