@@ -1,12 +1,6 @@
 -- Laws of numbers, columns and names put as text.
-use Prim.Native.Nat.{ℕ, ◌+◌, ◌*◌, ◌-◌, ◌≤◌, ◌<◌, ◌^◌}
-use native.Mathlib.Numerals.{add-one}
-use native.Mathlib.Omega.{arith}
-use mathlib.Core.Path.{◌≡◌, sym, ap}
-use mathlib.Core.List.{List, [], ◌∷◌, ◌++◌, map}
-use lib.ListN.{length, get_or, set, drop, replicate, length-replicate, drop_of_length-le}
-use lib.Seq.{drop_at, drop-cons}
-use Rattle.std.specs.Prelude.{Option, Some, None}
+use Rattle.std.proofs.Common.{ℕ, ◌+◌, ◌*◌, ◌-◌, ◌≤◌, ◌<◌, ◌^◌, add-one, arith, ◌≡◌, sym, ap, List, [], ◌∷◌, ◌++◌, map, length, get_or, set, drop, replicate, drop_of_length-le, drop_at, drop-cons, Option, Some, None}
+use lib.ListN.{length-replicate}
 use Rattle.decimal.specs.declared.Digits.{Digits}
 use Rattle.decimal.specs.Decimal.{decimal, digits_of}
 use Rattle.decimal.proofs.Spelling.{decimal_long}

@@ -1,10 +1,5 @@
 -- Laws of texts put one behind the other.
-use Prim.Native.Nat.{ℕ, suc, ◌+◌}
-use native.Mathlib.Omega.{arith}
-use native.Mathlib.Nat.{add-zero}
-use mathlib.Core.Path.{◌≡◌, refl, sym, ◌∙◌, ap}
-use mathlib.Core.List.{List, [], ◌∷◌, ◌++◌}
-use lib.ListN.{length, set, length-append}
+use Rattle.std.proofs.Common.{ℕ, suc, ◌+◌, arith, add-zero, ◌≡◌, refl, sym, ◌∙◌, ap, List, [], ◌∷◌, ◌++◌, length, set, length-append}
 use lib.Seq.{sets, length-sets}
 use Rattle.fill.proofs.Filling.{Filling, filling_none}
 use Rattle.listing.specs.Private.{Put}

@@ -1,16 +1,10 @@
 -- Laws of the functions that write a text: what they answer where it fits, and where something is refused.
-use Prim.Native.Nat.{ℕ, ◌≤◌, ◌<◌}
-use native.Mathlib.Omega.{arith}
-use mathlib.Core.Path.{◌≡◌, refl, sym, ◌∙◌, ap}
-use mathlib.Core.Logic.{by_cases, ◌⊎◌, inl, inr}
+use Rattle.std.proofs.Common.{ℕ, ◌≤◌, ◌<◌, arith, ◌≡◌, refl, sym, ◌∙◌, ap, ◌⊎◌, inl, inr, Bool, true, false, ◌&&◌, List, leb, ltb, eqb, length, get_or, take, length-take, eq-eqb, ne_eqb, le-leb, Result, Ok, Err}
+use mathlib.Core.Logic.{by_cases}
 use native.Mathlib.Decide.{dec_le}
-use mathlib.Core.Bool.{Bool, true, false, ◌&&◌, and-false}
-use mathlib.Core.List.{List}
-use lib.Dec.{leb, ltb, eqb}
-use lib.ListN.{length, get_or, take, length-take}
+use mathlib.Core.Bool.{and-false}
 use lib.Seq.{sets, length-sets}
-use borrow.Author.Tests.{eq-eqb, ne_eqb, le-leb, lt-leb}
-use Rattle.std.specs.Prelude.{Result, Ok, Err}
+use borrow.Author.Tests.{lt-leb}
 use Rattle.bits.specs.declared.Refusal.{Refusal}
 use Rattle.bits.specs.Refusals.{pick, refusal, none}
 use Rattle.grid.specs.declared.Frame.{Frame}

@@ -1,11 +1,5 @@
 -- Laws of a section's line, and of the lines of all sections one behind the other.
-use Prim.Native.Nat.{ℕ, suc, ◌+◌, ◌-◌, ◌*◌, ◌≤◌, ◌<◌}
-use native.Mathlib.Omega.{arith}
-use native.Mathlib.Numerals.{add-one}
-use mathlib.Core.Path.{◌≡◌, refl, ap}
-use mathlib.Core.List.{List, [], ◌∷◌, ◌++◌, map}
-use lib.ListN.{length, get_or}
-use Rattle.std.specs.Prelude.{Option, Some, None}
+use Rattle.std.proofs.Common.{ℕ, suc, ◌+◌, ◌-◌, ◌*◌, ◌≤◌, ◌<◌, arith, add-one, ◌≡◌, refl, ap, List, [], ◌∷◌, ◌++◌, map, length, get_or, Option, Some, None}
 use Rattle.decimal.specs.Decimal.{decimal}
 use Rattle.grid.specs.declared.Rect.{Rect}
 use Rattle.listing.specs.declared.rows.Row.{Row}

@@ -3,9 +3,8 @@ use Rattle.std.specs.Prelude.{ℕ, ◌&&◌, List, ◌++◌, eqb, leb, ltb, leng
 use Rattle.bits.specs.declared.Refusal.{Refusal}
 use Rattle.bits.specs.Refusals.{pick, refusal}
 use Rattle.grid.specs.declared.Frame.{Frame}
-use Rattle.grid.specs.Measured.{Measured}
 use Rattle.grid.specs.declared.Rect.{Rect}
-use Rattle.grid.specs.Measured.{grid_of}
+use Rattle.grid.specs.Measured.{Measured, grid_of}
 use Rattle.grid.specs.Groups.{judge, rect_for}
 use Rattle.order.specs.Order.{checked}
 use Rattle.order.specs.Sums.{sum_to}

@@ -15,7 +15,7 @@ use bits::Refusal;
 use grid::Frame;
 use put::{put_bytes, put_columns};
 pub use rows::Row;
-use rows::{put_rows, sum_sizes};
+use rows::{Tables, put_rows};
 
 // A line of a word and a few columns.
 fn put_line(out: &mut [u8], at: usize, word: &[u8], columns: &[Option<u64>]) -> usize
@@ -65,20 +65,13 @@ fn put_heading(out: &mut [u8]) -> usize
 }
 
 // The whole listing, its sections as they stand in the tables.
-fn put_listing(
-    out: &mut [u8],
-    f: Frame,
-    count: u32,
-    offsets: &[u64],
-    sizes: &[u32],
-    order: &[u32],
-) -> usize
+fn put_listing(out: &mut [u8], t: &Tables<'_>, count: u32) -> usize
     requires { count ≤ 65536 }
-    ensures { Put out.old 0 (listing_text count f offsets.now sizes.now order.now) out.new result }
+    ensures { Put out.old 0 (listing_text count t.now.frame t.now.offsets.now t.now.sizes.now t.now.order.now) out.new result }
 {
     let a = put_heading(out);
-    let b = put_rows(out, a, f, count, offsets, sizes, order);
-    put_line(out, b, b"total", &[Some(sum_sizes(sizes, count))])
+    let b = put_rows(out, a, t, count);
+    put_line(out, b, b"total", &[Some(t.sum_sizes(count))])
 }
 
 // The listing of an accepted table: 8, 9, 10, then 3 where a table has too few words or the text doesn't fit, then 13.
@@ -94,11 +87,17 @@ pub fn write_listing(
 {
     let g = grid::measure(f)?;
     let n = g.sections as usize;
+    let t = Tables {
+        frame: f,
+        offsets,
+        sizes,
+        order,
+    };
     let mut nowhere = [0u8; 1];
-    let length = put_listing(&mut nowhere, f, g.sections, offsets, sizes, order);
+    let length = put_listing(&mut nowhere, &t, g.sections);
     if offsets.len() < n || sizes.len() < n || out.len() < length {
         return Err(bits::refused(3, 0));
     }
     order::check_order(order, g.sections)?;
-    Ok(put_listing(out, f, g.sections, offsets, sizes, order))
+    Ok(put_listing(out, &t, g.sections))
 }

@@ -22,6 +22,15 @@ pub struct Row {
     pub rect: Option<Rect>,
 }
 
+// What a listing is made of: a frame and its tables, taken as they are.
+#[derive(Clone, Copy)]
+pub struct Tables<'a> {
+    pub frame: Frame,
+    pub offsets: &'a [u64],
+    pub sizes: &'a [u32],
+    pub order: &'a [u32],
+}
+
 // A word of a table; past its end, what is named.
 fn word<T: Copy>(t: &[T], i: u32, past: T) -> T
     ensures { result ≡ get_or t.now i past }
@@ -64,18 +73,32 @@ fn rect_of(f: Frame, kind: TocGroupKind) -> Option<Rect>
     }
 }
 
-// What the listing shows of a section. The frame and the tables are taken as they are: 0 where a table has no such word.
-pub fn row_at(f: Frame, offsets: &[u64], sizes: &[u32], order: &[u32], i: u32) -> Row
-    ensures { result ≡ row_at f offsets.now sizes.now order.now i }
-{
-    let kind = sections::kind_of(f, SectionNumber(i)).unwrap_or(TocGroupKind::All);
-    Row {
-        section: i,
-        kind,
-        sent: word(order, i, 0),
-        offset: word(offsets, i, 0),
-        size: word(sizes, i, 0),
-        rect: rect_of(f, kind),
+impl Tables<'_> {
+    // What the listing shows of a section: 0 where a table has no such word.
+    fn row(&self, i: u32) -> Row
+        ensures { result ≡ row_at self.now.frame self.now.offsets.now self.now.sizes.now self.now.order.now i }
+    {
+        let kind = sections::kind_of(self.frame, SectionNumber(i)).unwrap_or(TocGroupKind::All);
+        Row {
+            section: i,
+            kind,
+            sent: word(self.order, i, 0),
+            offset: word(self.offsets, i, 0),
+            size: word(self.sizes, i, 0),
+            rect: rect_of(self.frame, kind),
+        }
+    }
+
+    // The sum of the first so many sections' sizes.
+    pub fn sum_sizes(&self, count: u32) -> u64
+        requires { count ≤ 65536 }
+        ensures { result ≡ sum_to count (λ i. get_or self.now.sizes.now i 0) }
+    {
+        let mut total: u64 = 0;
+        for i in 0..count {
+            total += u64::from(word(self.sizes, i, 0));
+        }
+        total
     }
 }
 
@@ -142,34 +165,14 @@ fn put_row(out: &mut [u8], at: usize, r: Row) -> usize
 }
 
 // A line for each section, in the order of their numbers.
-pub fn put_rows(
-    out: &mut [u8],
-    at: usize,
-    f: Frame,
-    count: u32,
-    offsets: &[u64],
-    sizes: &[u32],
-    order: &[u32],
-) -> usize
+pub fn put_rows(out: &mut [u8], at: usize, t: &Tables<'_>, count: u32) -> usize
     requires { (at ≤ 4096) × (count ≤ 65536) }
-    ensures { Put out.old at (rows_from (row_at f offsets.now sizes.now order.now) count 0) out.new result
+    ensures { Put out.old at (rows_from (row_at t.now.frame t.now.offsets.now t.now.sizes.now t.now.order.now) count 0) out.new result
         × (result ≤ 16781312) }
 {
     let mut end = at;
     for i in 0..count {
-        end = put_row(out, end, row_at(f, offsets, sizes, order, i));
+        end = put_row(out, end, t.row(i));
     }
     end
-}
-
-// The sum of the sections' sizes.
-pub fn sum_sizes(sizes: &[u32], count: u32) -> u64
-    requires { count ≤ 65536 }
-    ensures { result ≡ sum_to count (λ i. get_or sizes.now i 0) }
-{
-    let mut total: u64 = 0;
-    for i in 0..count {
-        total += u64::from(word(sizes, i, 0));
-    }
-    total
 }

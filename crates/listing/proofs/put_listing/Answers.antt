@@ -10,4 +10,4 @@ pub returns : goal.returns
 unfolding column total_text
 returns c =
     let a = c.args in
-    listing_put a.count a.f a.offsets.now a.sizes.now a.order.now _ c.put_heading-a.ensures c.put_rows-b.ensures c.sum_sizes.ensures c.put_line.ensures
+    listing_put a.count a.t.now.frame a.t.now.offsets.now a.t.now.sizes.now a.t.now.order.now _ c.put_heading-a.ensures c.put_rows-b.ensures c.sum_sizes.ensures c.put_line.ensures

@@ -1,5 +1,5 @@
 -- `write_line`: measured first.
-use mathlib.Core.List.{map}
+use Rattle.std.proofs.Common.{map}
 use Rattle.listing.specs.Text.{line, column}
 use Rattle.listing.proofs.Texts.{line_short, line_fits}
 use Rattle.listing.proofs.write_line.Goals as goal

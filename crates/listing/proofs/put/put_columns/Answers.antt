@@ -1,5 +1,5 @@
 -- `put_columns`: the columns from an index on are still to be put.
-use Rattle.std.specs.Prelude.{None}
+use Rattle.std.proofs.Common.{None}
 use Rattle.listing.proofs.Columns.{cells_all, cells_less, cells_none}
 use Rattle.listing.proofs.put.put_columns.Goals as goal
 

@@ -1,7 +1,5 @@
 -- `put_name`: a tab, and a name behind it.
-use native.Mathlib.Omega.{arith}
-use mathlib.Core.Path.{ap}
-use lib.ListN.{length}
+use Rattle.std.proofs.Common.{arith, ap, length}
 use Rattle.listing.proofs.Columns.{kind_short, name_put}
 use Rattle.listing.proofs.put.put_name.Goals as goal
 

@@ -1,5 +1,5 @@
 -- `put_number`: the digits stand at the end of their bytes.
-use native.Mathlib.Omega.{arith}
+use Rattle.std.proofs.Common.{arith}
 use Rattle.listing.proofs.Columns.{digits_text, number_small, number_put}
 use Rattle.listing.proofs.put.put_number.Goals as goal
 

@@ -4,4 +4,4 @@ use Rattle.listing.proofs.Walks.{Lists}
 use Rattle.listing.proofs.rows.put_rows.Given as goal
 
 abbrev pub invariant-loop-i : goal.invariant-loop-i
-invariant-loop-i l = Lists (row_at l.f l.offsets l.sizes l.order) l.initial.out l.at l.count l.out l.end l.i
+invariant-loop-i l = Lists (row_at l.t.frame l.t.offsets.now l.t.sizes.now l.t.order.now) l.initial.out l.at l.count l.out l.end l.i

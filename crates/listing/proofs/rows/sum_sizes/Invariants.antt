@@ -1,6 +1,0 @@
--- `sum_sizes`: the sum of the sizes so far.
-use Rattle.listing.proofs.Showing.{Sums}
-use Rattle.listing.proofs.rows.sum_sizes.Given as goal
-
-abbrev pub invariant-loop-i : goal.invariant-loop-i
-invariant-loop-i l = Sums l.sizes l.count l.total l.i
