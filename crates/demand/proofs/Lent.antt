@@ -15,6 +15,7 @@ use Rattle.grid.specs.Sizes.{color_width, color_height, group_side, count}
 use Rattle.grid.specs.Groups.{Placed, has, placed, rect_for}
 use Rattle.grid.proofs.Accepted.{accepted}
 use Rattle.grid.proofs.Answers.{judge_unknown}
+use Rattle.order.specs.Numbers.{SentAnswer, SectionAnswer}
 use Rattle.order.proofs.Tables.{filled_sets}
 use Rattle.sections.specs.Kinds.{KindTold, kind_of}
 use Rattle.sections.specs.Lookups.{section_of_sample}

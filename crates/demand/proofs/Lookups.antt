@@ -19,6 +19,7 @@ use Rattle.grid.proofs.Accepted.{accepted}
 use Rattle.grid.proofs.Answers.{judge_known, judged}
 use Rattle.order.specs.declared.SectionNumber.{SectionNumber}
 use Rattle.order.specs.declared.SentNumber.{SentNumber}
+use Rattle.order.specs.Numbers.{SentAnswer, SectionAnswer}
 use Rattle.order.specs.Order.{is_order}
 use Rattle.order.specs.Tables.{inverse_of, filled}
 use Rattle.order.proofs.Entries.{and_both}

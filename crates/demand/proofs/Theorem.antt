@@ -12,10 +12,12 @@ use Rattle.bits.specs.Refusals.{none}
 use Rattle.grid.specs.declared.Frame.{Frame}
 use Rattle.grid.specs.Sizes.{up, color_width, color_height, group_side}
 use Rattle.grid.specs.Groups.{index_at}
+use Rattle.order.specs.Numbers.{SentAnswer, SectionAnswer}
 use Rattle.order.specs.Tables.{identity, inverse_of}
 use Rattle.order.proofs.Reach.{order_below}
 use Rattle.order.proofs.Inverse.{inverse_order, inverse_there}
 use Rattle.sections.specs.declared.KindNumbers.{KindNumbers}
+use Rattle.sections.specs.Lookups.{PlaceAnswer}
 use Rattle.sections.specs.Kinds.{KindTold}
 use Rattle.toc.specs.declared.Toc.{Toc}
 use Rattle.toc.specs.declared.TocRead.TheVariants.{Table}

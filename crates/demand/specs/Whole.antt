@@ -12,6 +12,7 @@ use Rattle.grid.specs.Measured.{grid_of}
 use Rattle.grid.specs.Groups.{Placed, Number, told, rect_for}
 use Rattle.order.specs.declared.SectionNumber.{SectionNumber}
 use Rattle.order.specs.declared.SentNumber.{SentNumber}
+use Rattle.order.specs.Numbers.{SentAnswer, SectionAnswer}
 use Rattle.order.specs.Sums.{sum_to}
 use Rattle.sections.specs.declared.TocGroupKind.TheVariants.{All, GroupPass}
 use Rattle.sections.specs.Kinds.{numbers_of, KindTold, kind_of}

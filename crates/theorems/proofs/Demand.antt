@@ -15,6 +15,7 @@ use Rattle.grid.specs.Measured.{Measured, grid_of, laid}
 use Rattle.grid.specs.Groups.{rect_of, index_at}
 use Rattle.grid.proofs.Accepted.{accepted}
 use Rattle.grid.proofs.Answers.{judge_known}
+use Rattle.order.specs.Numbers.{SectionAnswer}
 use Rattle.order.specs.Tables.{identity, inverse_of}
 use Rattle.order.specs.Sums.{sum_to}
 use Rattle.order.proofs.Sums.{sum_ext}

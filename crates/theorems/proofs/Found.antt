@@ -15,6 +15,7 @@ use Rattle.grid.specs.Measured.{Measured, grid_of}
 use Rattle.grid.specs.Groups.{index_at}
 use Rattle.grid.proofs.Answers.{judge_known}
 use Rattle.order.specs.declared.SectionNumber.{SectionNumber}
+use Rattle.order.specs.Numbers.{SectionAnswer}
 use Rattle.order.proofs.Entries.{and_both}
 use Rattle.order.proofs.Tables.{filled_length}
 use Rattle.toc.specs.declared.Toc.{Toc}

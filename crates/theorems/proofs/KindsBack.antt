@@ -15,6 +15,7 @@ use Rattle.grid.specs.Groups.{judge}
 use Rattle.grid.proofs.Accepted.{and_parts}
 use Rattle.grid.proofs.Answers.{judge_known, judged}
 use Rattle.order.specs.declared.SectionNumber.{SectionNumber}
+use Rattle.order.specs.Numbers.{SectionAnswer}
 use Rattle.order.proofs.Entries.{split, and_both}
 use Rattle.sections.specs.declared.TocGroupKind.{TocGroupKind}
 use Rattle.sections.specs.declared.TocGroupKind.TheVariants.{All, LfGlobal, LfGroup, HfGlobal, GroupPass}

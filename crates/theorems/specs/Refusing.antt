@@ -12,6 +12,11 @@ use Rattle.bits.specs.Refusals.{refusal, none, clear}
 use Rattle.bits.specs.Bits.{bit_count}
 use Rattle.header.specs.Record.{HeaderNumbers}
 use Rattle.sections.specs.Kinds.{KindTold}
+use Rattle.grid.specs.Measured.{Measured}
+use Rattle.grid.specs.Groups.{Touches, Placed, Sized, Number}
+use Rattle.order.specs.Numbers.{SentAnswer, SectionAnswer}
+use Rattle.sections.specs.Lookups.{PlaceAnswer}
+use Rattle.layout.specs.Layouts.{LayoutAnswer}
 use Rattle.toc.specs.declared.TocRead.{TocRead}
 use Rattle.toc.specs.declared.TocRead.TheVariants.{Table, OrderNeeded, Refused}
 use Rattle.toc.specs.Reading.{Tables}
