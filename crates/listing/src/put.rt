@@ -1,5 +1,6 @@
 // Bytes, numbers and columns put into lent bytes from an index on. A place that the bytes haven't is passed over, so that the same walk
-// serves to measure, on bytes that are too few, and to write. Each answers the index behind what it put.
+// serves to measure, on bytes that are too few, and to write. Each answers the index behind what it put. A struct of the bytes and the index, tried,
+// is no plainer: each method would promise besides that it still holds the same bytes (`ghost_name`), and each loop keep that.
 ghost use Rattle.std.specs.Prelude.{[], ◌∷◌, ◌+◌, ◌*◌, ◌≡◌, ◌≤◌, length, map};
 ghost use Rattle.decimal.specs.Decimal.{decimal};
 ghost use Rattle.listing.specs.Private.{Put};
