@@ -139,7 +139,7 @@ has_by true x e = absurd (false≢true e)
 has_by false x e = e
 
 -- its kind: a pass below the frame's passes, and a group no larger than the section's number
-kind_small : (f : Frame) (g : Measured) (i : ℕ) → f.num_passes ≤ 11 → i < 1024 → (kind : TocGroupKind) → Stands f g i kind → SmallKind (numbers_of kind)
+kind_small : (f : Frame) (g : Measured) (i : ℕ) → f.num_passes ≤ 11 → i < 1024 → (kind : TocGroupKind) → Stands f g i kind → SmallKind kind
 unfolding has_kind section_number
 kind_small f g i p h All w = (tt, tt)
 kind_small f g i p h LfGlobal w = (tt, tt)
@@ -148,13 +148,6 @@ kind_small f g i p h HfGlobal w = (tt, tt)
 kind_small f g i p h (GroupPass pass j) w =
     let both = has_by (eqb g.sections 1) (ltb pass f.num_passes && ltb j g.groups) w.has in
     (omega (arith, ltb-true pass f.num_passes (and_left (ltb pass f.num_passes) (ltb j g.groups) both)), omega (arith, w.number))
-
--- a rectangle of a picture of at most 1,048,576 samples a side, in squares of at most 8,192
-pub record SmallRect (r : Rect) : Type 0 where
-  pub left : r.left < 10000000
-  pub top : r.top < 10000000
-  pub width : r.width < 10000
-  pub height : r.height < 10000
 
 module _ (g : Measured) (side i : ℕ) (w : g.width ≤ 1048576) (h : g.height ≤ 1048576) (s : side ≤ 8192) where
   square_in : has g side i ≡ true → SmallRect (rect_of g.width g.height side i)
