@@ -52,10 +52,9 @@ pub fn take(s: &[u8], p: u64, n: u32) -> Option<Piece>
     if !is_there(s, p, n, a.whole) {
         return None;
     }
-    Some(Piece {
-        value: low_bits(a.bits, n),
-        at: p + (n as u64),
-    })
+    let value = low_bits(a.bits, n);
+    let at = p + (n as u64);
+    Some(Piece { value, at })
 }
 
 // A field that begins at p is refused there.

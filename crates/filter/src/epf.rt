@@ -80,11 +80,11 @@ pub fn read_epf_if(s: &[u8], c: Cursor, on: bool, modular: bool) -> Read<EdgePre
     ensures { result ≡ read (epf on modular) s.now c }
 {
     let iters = bits::read_bits_if(s, c, on, 2, 2);
-    let live = bits::both(on, iters.value != 0);
-    let lut = read_sharp_if(s, iters.next, bits::both(live, !modular));
+    let live = on && iters.value != 0;
+    let lut = read_sharp_if(s, iters.next, live && !modular);
     let scale = read_scale_if(s, lut.next, live);
     let four = read_sigma_if(s, scale.next, live, modular);
-    let own = read_float_if(s, four.next, bits::both(live, modular), 15360);
+    let own = read_float_if(s, four.next, live && modular, 15360);
     let sharp_lut = lut.value;
     let channel_scale = scale.value;
     let sigma = four.value;

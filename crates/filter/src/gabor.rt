@@ -84,7 +84,7 @@ pub fn read_gabor_if(s: &[u8], c: Cursor, on: bool) -> Read<Gabor>
     ensures { result ≡ read (gabor on) s.now c }
 {
     let enabled = bits::read_bool_if(s, c, on, 1);
-    let live = bits::both(on, enabled.value == 1);
+    let live = on && enabled.value == 1;
     let own = bits::read_bool_if(s, enabled.next, live, 0);
     let custom = own.value == 1;
     let x = read_channel_if(s, own.next, custom);

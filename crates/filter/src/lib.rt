@@ -38,7 +38,7 @@ pub fn read_restoration_filter_if(s: &[u8], c: Cursor, on: bool, modular: bool) 
     ensures { result ≡ read (restoration on modular) s.now c }
 {
     let all_default = bits::read_bool_if(s, c, on, 1);
-    let live = bits::both(on, all_default.value == 0);
+    let live = on && all_default.value == 0;
     if !live {
         let value = default_filter();
         let next = all_default.next;

@@ -135,7 +135,7 @@ pub fn read_sigma_if(s: &[u8], c: Cursor, on: bool, modular: bool) -> Read<EpfSi
 {
     let flag = bits::read_bool_if(s, c, on, 0);
     let own = flag.value == 1;
-    let quant = bits::both(own, !modular);
+    let quant = own && !modular;
     let q = read_float_if(s, flag.next, quant, 0);
     let a = read_float_if(s, q.next, own, 0);
     let b = read_float_if(s, a.next, own, 0);

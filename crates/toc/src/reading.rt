@@ -20,9 +20,9 @@ fn has_room(count: u32, offsets: usize, sizes: usize, order: usize, inverse: usi
     ensures { result ≡ room_for count offsets sizes order inverse }
 {
     let n = count as usize;
-    let words = bits::both(n <= offsets, n <= sizes);
-    let orders = bits::both(n <= order, n <= inverse);
-    bits::both(words, orders)
+    let words = n <= offsets && n <= sizes;
+    let orders = n <= order && n <= inverse;
+    words && orders
 }
 
 // What is refused before anything is read: 2, 8, 9, 10, 3, 11; else the frame's grid.

@@ -17,4 +17,4 @@ returns c =
     let a = c.args in
     let there = sym c.is_there.ensures ∙ c.if-not-is_there.false in
     piece_there a.s.now _ _ _ there
-    (peeked a.s.now a.p a.n _ _ (there_parts a.s.now a.p a.n there).0 (ap (λ (a : Ahead). a.bits) c.look_ahead-a.ensures) c.low_bits.ensures)
+    (peeked a.s.now a.p a.n _ _ (there_parts a.s.now a.p a.n there).0 (ap (λ (a : Ahead). a.bits) c.look_ahead-a.ensures) c.low_bits-value.ensures)
