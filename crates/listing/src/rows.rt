@@ -93,8 +93,8 @@ fn kind_at(f: Frame, i: u32) -> KindNumbers
     ensures { result ≡ kind_numbers f i }
 {
     match sections::kind_of(f, SectionNumber(i)) {
-        Ok(kind) => sections::kind_numbers(kind),
-        Err(_) => sections::kind_numbers(sections::TocGroupKind::All),
+        Ok(kind) => KindNumbers::from(kind),
+        Err(_) => KindNumbers::from(sections::TocGroupKind::All),
     }
 }
 
