@@ -8,7 +8,7 @@ mod pieces;
 mod view;
 mod window;
 
-ghost use Rattle.std.specs.Prelude.{◌≡◌};
+ghost use Rattle.std.specs.Prelude.{◌≡◌, ◌&&◌, ◌||◌};
 ghost use Rattle.bits.specs.Refusals.{refusal, none, start};
 ghost use Rattle.bits.specs.Codec.{val, plus, one_of};
 ghost use Rattle.bits.specs.Table.{failed};
@@ -126,4 +126,17 @@ pub fn refuse_if(c: Cursor, bad: bool, number: u32, back: u64) -> Cursor
     let at = c.at;
     let fault = refused(number, at.saturating_sub(back));
     Cursor { at, fault }
+}
+
+// `&&` and `||` by the names that they have had here.
+pub fn both(a: bool, b: bool) -> bool
+    ensures { result ≡ (a && b) }
+{
+    a && b
+}
+
+pub fn either(a: bool, b: bool) -> bool
+    ensures { result ≡ (a || b) }
+{
+    a || b
 }

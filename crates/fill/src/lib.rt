@@ -2,8 +2,15 @@
 // the same walk serves to judge, on a short slice, and to fill.
 #![tactic(auto)]
 
-ghost use Rattle.std.specs.Prelude.{◌≡◌, set};
+ghost use Rattle.std.specs.Prelude.{◌≡◌, min, set};
 ghost use Rattle.std.proofs.lemmas.List.Edits.{sets};
+
+// The lesser of two lengths: the library's method by the name that it has had here.
+pub fn least(a: usize, b: usize) -> usize
+    ensures { result ≡ min a b }
+{
+    a.min(b)
+}
 
 // A value at its place.
 pub fn put<T: Copy>(out: &mut [T], k: usize, value: T)

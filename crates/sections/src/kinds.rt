@@ -50,6 +50,12 @@ impl From<TocGroupKind> for KindNumbers {
     }
 }
 
+pub fn kind_numbers(kind: TocGroupKind) -> KindNumbers
+    ensures { result ≡ numbers_of kind }
+{
+    KindNumbers::from(kind)
+}
+
 // Whether the frame has a section of the kind.
 #[tactic(auto, unfolding(crate::specs::Kinds::has_kind))]
 fn has_kind(g: Grid, passes: u32, kind: TocGroupKind) -> bool
