@@ -8,6 +8,7 @@ use lib.ListN.{replicate}
 use lib.Seq.{sets}
 use borrow.Author.Tests.{le-ltb}
 use Rattle.bits.specs.declared.Read.{Read}
+use Rattle.std.specs.Prelude.{Ok}
 use Rattle.bits.specs.declared.Cursor.{Cursor}
 use Rattle.bits.specs.Refusals.{start}
 use Rattle.bits.specs.Codec.{Codec, bool, u32, field}
@@ -107,7 +108,7 @@ module _ (f : Facts) (s : List ℕ) (c : Cursor) where
       → fr ≡ default_front f → ba ≡ default_back → numbers_of h ≡ header_of f fr ba
       → Arrayed (u32 upsamplings) 0 f.extra 1 s c w upsampling upsampling'
       → Extras false f.extra true (source_decider f 0) s c e channels channels'
-      → Defaulted f c.at (record { header = h; end = c.at }) upsampling upsampling' channels channels'
+      → Defaulted f c.at (Ok (record { header = h; end = c.at })) upsampling upsampling' channels channels'
   default_given fr ba h w e upsampling upsampling' channels channels' pf pb ph wu we = record {
     answer = rw (ph, pf, pb);
     upsampled = wu.words ∙ ap (λ (o : Read (List ℕ)). sets upsampling 0 o.value) (array_none (u32 upsamplings) 1 _ s c f.extra).is;

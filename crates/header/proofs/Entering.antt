@@ -110,15 +110,15 @@ module _ (f : Facts) (s name upsampling blending : List ℕ) where
     yes = accepted_by before t u (eqb before.number 0) refl go
 
     -- the header is the bit that says all default
-    pub default_all : (b : Cursor) (all : Read ℕ) (r : HeaderRead) (upsampling' blending' : List ℕ) → b ≡ start 0 → all ≡ field s true bool 0 b → all.value ≡ 1
-        → Defaulted f all.next.at r upsampling upsampling' blending blending' → Headed f s (Ok r) name name upsampling upsampling' blending blending'
+    pub default_all : (b : Cursor) (all : Read ℕ) (r : Result HeaderRead Refusal) (upsampling' blending' : List ℕ) → b ≡ start 0 → all ≡ field s true bool 0 b → all.value ≡ 1
+        → Defaulted f all.next.at r upsampling upsampling' blending blending' → Headed f s r name name upsampling upsampling' blending blending'
     unfolding answered
     default_all b all r upsampling' blending' pb pa one d =
         let is = header_off f s all.next (one_read s b all pb pa one) in
         let ok : eqb all.next.fault.number 0 ≡ true = ap (λ (c : Cursor). eqb c.fault.number 0) (behind_one s b all pb pa one) in
         record {
           answer = d.answer ∙ rw (yes, is, ok);
-                   named = rw (yes, is, ok);
+          named = rw (yes, is, ok);
           upsampled = d.upsampled ∙ rw (yes, is, ok);
           blended = d.blended ∙ rw (yes, is, ok);
         }
@@ -137,15 +137,15 @@ module _ (f : Facts) (s name upsampling blending : List ℕ) where
             record { answer = rw (yes, is, no); named = rw (yes, is, no); upsampled = rw (yes, is, no); blended = rw (yes, is, no) }
 
         -- accepted
-        pub accepted_all : b.next.fault.number ≡ 0 → (r : HeaderRead) (name' upsampling' blending' : List ℕ) → Filled f s a b r name name' upsampling upsampling' blending blending'
-            → Headed f s (Ok r) name name' upsampling upsampling' blending blending'
+        pub accepted_all : b.next.fault.number ≡ 0 → (r : Result HeaderRead Refusal) (name' upsampling' blending' : List ℕ) → Filled f s a b r name name' upsampling upsampling' blending blending'
+            → Headed f s r name name' upsampling upsampling' blending blending'
         unfolding answered
         accepted_all h r name' upsampling' blending' fl =
             let ok : eqb b.next.fault.number 0 ≡ true = eq-eqb b.next.fault.number 0 h in
             let all = header_law f s a b w w' x x' fa fb in
             record {
               answer = fl.answer ∙ rw (yes, all, ok);
-                           named = fl.named ∙ rw (yes, all, ok);
+              named = fl.named ∙ rw (yes, all, ok);
               upsampled = fl.channels.upsampled ∙ rw (yes, all, ok);
               blended = fl.channels.blended ∙ rw (yes, all, ok);
             }
@@ -194,7 +194,7 @@ module _ (f : Facts) (s : List ℕ) (a : FrontRead) (b : BackRead) (upsampling u
   pub filled_by : (hd : FrameHeader) (name name' : List ℕ) (n : Cursor) → numbers_of hd ≡ header_of f a.value b.value
       → ChannelsGiven f s a b upsampling upsampling' blending blending'
       → Arrayed (u 8) b.value.closing.name_length b.value.closing.name_length 0 s b.name_at n name name'
-      → Filled f s a b (record { header = hd; end = b.next.at }) name name' upsampling upsampling' blending blending'
+      → Filled f s a b (Ok (record { header = hd; end = b.next.at })) name name' upsampling upsampling' blending blending'
   filled_by hd name name' n eh g wn = record { answer = rw eh; named = wn.words; channels = g }
 
 -- the record of what was read

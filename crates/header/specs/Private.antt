@@ -1,9 +1,10 @@
 -- What private functions promise: parts of a header on their way to the entry. Nothing that a caller is promised names these.
-use Rattle.std.specs.Prelude.{ℕ, ◌*◌, ◌≤◌, ◌<◌, ◌≡◌, Bool, true, not, List, eqb, length, replicate, take, Ok}
+use Rattle.std.specs.Prelude.{ℕ, ◌*◌, ◌≤◌, ◌<◌, ◌≡◌, Bool, true, not, List, eqb, length, replicate, take, Result}
 use Rattle.std.proofs.lemmas.List.Edits.{sets}
 use Rattle.bits.specs.declared.Read.{Read}
 use Rattle.bits.specs.declared.Choices.{Choices}
 use Rattle.bits.specs.declared.Cursor.{Cursor}
+use Rattle.bits.specs.declared.Refusal.{Refusal}
 use Rattle.bits.specs.declared.view.View.{View}
 use Rattle.bits.specs.declared.view.Seen.{Seen}
 use Rattle.bits.specs.Refusals.{none, start, pick}
@@ -127,13 +128,13 @@ pub record ChannelsGiven (f : Facts) (s : List ℕ) (a : FrontRead) (b : BackRea
   pub blended : blending' ≡ sets blending 0 (words (blending_from f a.value.opening a.value.placement b.value.blending.mode s b.blending_at))
 
 -- what is answered of a header that was read in two parts: the record, and the arrays in front of the lent buffers
-pub record Filled (f : Facts) (s : List ℕ) (a : FrontRead) (b : BackRead) (r : HeaderRead) (name name' upsampling upsampling' blending blending' : List ℕ) : Type 0 where
-  pub answer : told (Ok r) ≡ record { given = true; header = header_of f a.value b.value; end = b.next.at; refusal = none }
+pub record Filled (f : Facts) (s : List ℕ) (a : FrontRead) (b : BackRead) (r : Result HeaderRead Refusal) (name name' upsampling upsampling' blending blending' : List ℕ) : Type 0 where
+  pub answer : told r ≡ record { given = true; header = header_of f a.value b.value; end = b.next.at; refusal = none }
   pub named : name' ≡ sets name 0 (read (array (u 8) b.value.closing.name_length b.value.closing.name_length 0 (λ (x : List ℕ) (i : ℕ). 0)) s b.name_at).value
   pub channels : ChannelsGiven f s a b upsampling upsampling' blending blending'
 
 -- what is answered: the record, the place behind that bit, and for each extra channel upsampling 1 and blending 0, 0, 0, 0
-pub record Defaulted (f : Facts) (at : ℕ) (r : HeaderRead) (upsampling upsampling' blending blending' : List ℕ) : Type 0 where
-  pub answer : told (Ok r) ≡ record { given = true; header = header_of f (default_front f) default_back; end = at; refusal = none }
+pub record Defaulted (f : Facts) (at : ℕ) (r : Result HeaderRead Refusal) (upsampling upsampling' blending blending' : List ℕ) : Type 0 where
+  pub answer : told r ≡ record { given = true; header = header_of f (default_front f) default_back; end = at; refusal = none }
   pub upsampled : upsampling' ≡ sets upsampling 0 (replicate f.extra 1)
   pub blended : blending' ≡ sets blending 0 (words (replicate f.extra no_blending))

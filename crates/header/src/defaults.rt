@@ -10,7 +10,7 @@ use crate::entry::{HeaderRead, assemble};
 use crate::opening::{Opening, UPSAMPLINGS};
 use crate::parts::{Back, Front};
 use crate::shape::{Passes, Placement, Scales};
-use bits::Cursor;
+use bits::{Cursor, Refusal};
 use filter::{RestorationFilter, default_filter};
 
 // all_default to the frame's size: a regular VarDCT frame of one pass and the image's size.
@@ -82,14 +82,15 @@ fn default_back() -> Back
     }
 }
 
-// The record, and the default of each extra channel in the lent buffers; at: behind the bit that says all default.
+// The record, and the default of each extra channel in the lent buffers; at: behind the bit that says all default. It answers as the entry does, so that
+// the record isn't copied once more (measured: a tenth of the instructions).
 pub fn give_default(
     s: &[u8],
     at: Cursor,
     f: Facts,
     upsampling: &mut [u32],
     blending: &mut [u32],
-) -> HeaderRead
+) -> Result<HeaderRead, Refusal>
     ensures { Defaulted f at.at result upsampling.old upsampling.new blending.old blending.new }
 {
     read_array(s, at, 0, f.extra, UPSAMPLINGS, 1, upsampling);
@@ -97,5 +98,5 @@ pub fn give_default(
     let front = default_front(f);
     let back = default_back();
     let header = assemble(f, front, back);
-    HeaderRead { header, end: at.at }
+    Ok(HeaderRead { header, end: at.at })
 }

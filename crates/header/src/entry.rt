@@ -172,7 +172,7 @@ fn give_channels(
     );
 }
 
-// The record of a header that was read, and its arrays in the lent buffers; the name is read there.
+// The record of a header that was read, and its arrays in the lent buffers; the name is read there. It answers as the entry does, as `give_default`.
 fn give_read(
     s: &[u8],
     f: Facts,
@@ -183,7 +183,7 @@ fn give_read(
     name: &mut [u8],
     upsampling: &mut [u32],
     blending: &mut [u32],
-) -> HeaderRead
+) -> Result<HeaderRead, Refusal>
     requires { ChannelsKept f s.now a b ups.now channels.now × Named a.value b.value }
     ensures { Filled f s.now a b result name.old name.new upsampling.old upsampling.new blending.old blending.new }
 {
@@ -194,10 +194,10 @@ fn give_read(
     give_channels(s, f, a, b, ups, channels, upsampling, blending);
     read_bytes(s, b.name_at, closing.name_length, name);
     let header = assemble(f, front, back);
-    HeaderRead {
+    Ok(HeaderRead {
         header,
         end: end.at,
-    }
+    })
 }
 
 // The entry: 2, 1, 3, then the first fault in reading order. The lent buffers are written once all is known to be good.
@@ -213,7 +213,7 @@ pub fn read_frame_header(
     judge_header(s.len(), f, name.len(), upsampling.len(), blending.len())?;
     let all = read_bool(s, begin(0));
     if all.value == 1 {
-        return Ok(give_default(s, all.next, f, upsampling, blending));
+        return give_default(s, all.next, f, upsampling, blending);
     }
     let mut ups = [0u32; 8];
     let a = read_front(s, f, &mut ups);
@@ -227,5 +227,5 @@ pub fn read_frame_header(
     if fault.number != 0 {
         return Err(fault);
     }
-    Ok(give_read(s, f, a, b, &ups, &channels, name, upsampling, blending))
+    give_read(s, f, a, b, &ups, &channels, name, upsampling, blending)
 }
