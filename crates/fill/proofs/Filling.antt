@@ -35,8 +35,8 @@ pub copied_in : {A : Type 0} (l vs part : List A) (at n k : ℕ) → at < length
 copied_in l vs part at n k h en ek ep =
     let size : length (take n vs) ≡ n = length-take-le n vs (omega arith) in
     let some : sets l at vs ≡ sets l at (take n vs) = by_cases (dec_le (length vs) n)
-        (λ y. ap (sets l at) (sym (take_all n vs y)))
-        (λ y. sets_room vs l at n (omega arith)) in
+    (λ y. ap (sets l at) (sym (take_all n vs y)))
+    (λ y. sets_room vs l at n (omega arith)) in
     let behind : drop k (drop at l) ≡ drop (at + length (take n vs)) l = drop-drop k at l ∙ ap (λ (i : ℕ). drop i l) (omega arith) in
     simp (ep, behind, some, sets-eq (take n vs) l at (omega arith)) (sym (append_assoc (take at l) (take n vs) _))
 

@@ -34,7 +34,12 @@ pub fn default_filter() -> RestorationFilter
 
 // The bundle `RestorationFilter`, where it is asked for; else both default filters, and nothing more is looked at. `modular`: the frame's
 // encoding is Modular.
-pub fn read_restoration_filter_if(s: &[u8], c: Cursor, on: bool, modular: bool) -> Read<RestorationFilter>
+pub fn read_restoration_filter_if(
+    s: &[u8],
+    c: Cursor,
+    on: bool,
+    modular: bool,
+) -> Read<RestorationFilter>
     ensures { result ≡ read (restoration on modular) s.now c }
 {
     let all_default = bits::read_bool_if(s, c, on, 1);

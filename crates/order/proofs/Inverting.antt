@@ -1,4 +1,7 @@
 -- Laws of inverting into a lent table: a refusal keeps the table, an acceptance leaves the inverse in front.
+use Rattle.std.specs.Prelude.{Result, Ok, Err}
+use Rattle.bits.specs.Refusals.{answered}
+use Rattle.bits.proofs.Answered.{answered_yes, answered_no}
 use Prim.Native.Nat.{ℕ, ◌≤◌, ◌<◌}
 use native.Mathlib.Omega.{arith}
 use mathlib.Core.Path.{◌≡◌, sym, ◌∙◌, ap}
@@ -45,3 +48,10 @@ module _ (count : ℕ) (order table : List ℕ) where
         same,
         rw (eq-eqb (inverted count order table).number 0 (sym (ap number same) ∙ z)) (p ∙ placed_inverse count order table good.1 fits),
       )
+
+  -- as an answer or a refusal
+  pub invert_no : {B : Type 0} (r : Refusal) → (r.number ≡ 0 → ⊥) → (r ≡ inverted count order table) × B → (◌≡◌ {A = Result (Unit {0}) Refusal} (Err r) (answered (inverted count order table) tt)) × B
+  invert_no r h p = (ap Err p.0 ∙ sym (answered_no (inverted count order table) tt (λ z. h (ap number p.0 ∙ z))), p.1)
+
+  pub invert_yes : {B : Type 0} (r : Refusal) → r.number ≡ 0 → (r ≡ inverted count order table) × B → (◌≡◌ {A = Result (Unit {0}) Refusal} (Ok tt) (answered (inverted count order table) tt)) × B
+  invert_yes r z p = (sym (answered_yes (inverted count order table) tt (sym (ap number p.0) ∙ z)), p.1)

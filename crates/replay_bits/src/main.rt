@@ -2,7 +2,7 @@
 // tools/vectors/bits.py wrote both files; it says where the vectors come from and what a record holds.
 #![tactic(auto)]
 
-use bits::{Read, Choice, Choices, Cursor, Sum};
+use bits::{Choice, Choices, Cursor, Read, Sum};
 use replay::Output;
 use std::io;
 

@@ -48,7 +48,7 @@ fn answers(out: &mut Output, entries: &[u32], count: u32, number: u32, table: &m
     let sent = order::sent_of(entries, count, SectionNumber(number));
     let section = order::section_of(table, count, SentNumber(number));
     out.cells(&[
-        inverted.number,
+        refusal_of(inverted).number,
         refusal_of(sent).number,
         sent.unwrap_or(SentNumber(0)).0,
         refusal_of(section).number,

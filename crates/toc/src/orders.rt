@@ -1,5 +1,6 @@
 // The two order tables: what is written of an order that is known to be one, and the inverse of any lent order.
 ghost use Rattle.std.specs.Prelude.{◌≡◌, ◌≤◌, true, length, take};
+ghost use Rattle.bits.specs.Refusals.{answered};
 ghost use Rattle.order.specs.Order.{is_order};
 ghost use Rattle.order.specs.Tables.{identity, inverse_of, filled, inverted, inverse_after};
 ghost use Rattle.order.specs.Private.{placed};
@@ -52,19 +53,17 @@ pub fn put_orders(given: bool, lent: &[u32], count: u32, order: &mut [u32], inve
 }
 
 // The inverse of a lent order: 10, then 3 where the lent table is shorter than count, then 13; refused, the table stays as it was.
-pub fn invert(order: &[u32], count: u32, inverse: &mut [u32]) -> bits::Refusal
-    ensures { (result ≡ inverted count order.now inverse.old)
+pub fn invert(order: &[u32], count: u32, inverse: &mut [u32]) -> Result<(), bits::Refusal>
+    ensures { (result ≡ answered (inverted count order.now inverse.old) tt)
         × (inverse.new ≡ inverse_after count order.now inverse.old) }
 {
     if 65536 < count {
-        return bits::refused(10, 0);
+        return Err(bits::refused(10, 0));
     }
     if inverse.len() < count as usize {
-        return bits::refused(3, 0);
+        return Err(bits::refused(3, 0));
     }
-    if let Err(refusal) = order::check_order(order, count) {
-        return refusal;
-    }
+    order::check_order(order, count)?;
     inverse_into(order, count, inverse);
-    bits::accepted()
+    Ok(())
 }
