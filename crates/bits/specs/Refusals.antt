@@ -1,5 +1,5 @@
 -- A refusal is its number and a bit place; number 0 says that nothing was refused.
-use Rattle.std.specs.Prelude.{ℕ, Bool, true, false, ◌==◌}
+use Rattle.std.specs.Prelude.{ℕ, Bool, true, false, ◌==◌, Result, Ok, Err}
 use Rattle.bits.specs.declared.Refusal.{Refusal}
 use Rattle.bits.specs.declared.Cursor.{Cursor}
 
@@ -21,3 +21,7 @@ start place = record { at = place; fault = none }
 -- nothing was refused yet
 abbrev pub clear : Cursor → Bool
 clear c = c.fault.number == 0
+
+-- an answer, or why there is none: a refusal whose number isn't 0
+abbrev pub answered : {A : Type 0} → Refusal → A → Result A Refusal
+answered r a = pick (r.number == 0) (Ok a) (Err r)

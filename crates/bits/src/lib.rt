@@ -19,7 +19,7 @@ pub use view::{Seen, View, see, see_choice};
 pub use window::{Ahead, look_ahead, low_bits};
 
 // Why something was refused, and at which bit. Number 0: nothing was.
-#[derive(Clone, Copy)]
+#[derive(Clone, Copy, Debug, PartialEq, Eq)]
 pub struct Refusal {
     pub number: u32,
     pub place: u64,

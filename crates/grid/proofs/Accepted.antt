@@ -11,9 +11,8 @@ use lib.Dec.{leb, eqb}
 use lib.Pow.{pow_mono, pow_pos}
 use Rattle.bits.specs.Refusals.{pick}
 use Rattle.grid.specs.declared.Frame.{Frame}
-use Rattle.grid.specs.declared.Grid.{Grid}
 use Rattle.grid.specs.Sizes.{up, sample, color_width, color_height, group_side, lf_side, count, sections_of, sections}
-use Rattle.grid.specs.Measured.{upsamples, good_record, zero_size, too_many, laid, refused_grid, grid_of}
+use Rattle.grid.specs.Measured.{Measured, upsamples, good_record, zero_size, too_many, laid, refused_grid, grid_of}
 use Rattle.grid.proofs.Rounding.{up_pos, up_le, up_fewer, up_small, below, side_exact}
 
 pub and_parts : (a b : Bool) → (a && b) ≡ true → (a ≡ true) × (b ≡ true)
@@ -119,7 +118,7 @@ pub record Accepted (f : Frame) : Type 0 where
   pub lf_groups : count (color_width f) (color_height f) (lf_side f) ≤ count (color_width f) (color_height f) (group_side f)
   pub sections : sections f ≤ 65536
 
-ways : (a z m : Bool) (l : Grid) → (pick a (pick z (refused_grid 9) (pick m (refused_grid 10) l)) (refused_grid 8)).refusal.number ≡ 0
+ways : (a z m : Bool) (l : Measured) → (pick a (pick z (refused_grid 9) (pick m (refused_grid 10) l)) (refused_grid 8)).refusal.number ≡ 0
     → (a ≡ true) × (z ≡ false) × (m ≡ false)
 unfolding refused_grid
 ways true false false l e = (refl, refl, refl)
@@ -152,7 +151,7 @@ accepted f e =
     }
 
 -- the same, of the grid that the check answers
-pub record Sound (f : Frame) (g : Grid) : Type 0 where
+pub record Sound (f : Frame) (g : Measured) : Type 0 where
   pub width : 0 < g.width
   pub height : 0 < g.height
   pub side : 0 < g.side
@@ -197,7 +196,7 @@ laid_sound f a = record {
   sections = a.sections;
 }
 
-pub sound : (f : Frame) (g : Grid) → g ≡ grid_of f → g.refusal.number ≡ 0 → Sound f g
+pub sound : (f : Frame) (g : Measured) → g ≡ grid_of f → g.refusal.number ≡ 0 → Sound f g
 sound f g m z =
     let a = accepted f (rw m at z) in
     rw (m, a.grid) (laid_sound f a)

@@ -1,18 +1,20 @@
 -- What each step of the check asks for at its return, over plain variables.
-use Prim.Native.Nat.{ℕ, zero, suc, ◌+◌, ◌*◌, ◌/◌, ◌%◌, ◌^◌, ◌≤◌, ◌<◌}
+use Prim.Native.Nat.{ℕ, zero, suc, ◌*◌, ◌/◌, ◌%◌, ◌^◌, ◌≤◌, ◌<◌}
 use native.Mathlib.Omega.{arith}
 use native.Mathlib.Nat.{le_trans}
 use mathlib.Core.Path.{◌≡◌, refl}
-use mathlib.Core.Bool.{Bool, true, false, not, ◌&&◌}
-use borrow.Author.Tests.{ne_eqb, le-leb, lt-leb, lt-ltb, le-ltb, not-true, not-false}
-use lib.Dec.{leb, eqb}
+use mathlib.Core.Bool.{true, false, or-true}
+use mathlib.Core.Logic.{◌⊎◌, inl, inr}
+use borrow.Author.Tests.{eq-eqb, ne_eqb, le-leb, lt-leb, lt-ltb, le-ltb}
+use lib.Dec.{eqb}
 use lib.Bits.{bit_and}
-use Rattle.bits.specs.Refusals.{pick, refusal, none}
+use Rattle.std.specs.Prelude.{Result, Ok, Err}
+use Rattle.bits.specs.Refusals.{pick, refusal}
 use Rattle.bits.specs.declared.Refusal.{Refusal}
 use Rattle.grid.specs.declared.Frame.{Frame}
 use Rattle.grid.specs.declared.Grid.{Grid}
 use Rattle.grid.specs.Sizes.{up, sample, color_width, color_height, group_side, count, sections_of, sections}
-use Rattle.grid.specs.Measured.{upsamples, good_record, zero_size, too_many, laid, refused_grid, grid_of}
+use Rattle.grid.specs.Measured.{upsamples, good_record, zero_size, too_many, laid, refused_grid, grid_of, grid_or_refused}
 use Rattle.grid.proofs.Rounding.{eight}
 use Rattle.grid.proofs.Accepted.{good, sample_le, side_bounds, count_small, groups_le, lf_le}
 
@@ -33,19 +35,6 @@ pub none_above : (n : ℕ) → 8 < n → false ≡ upsamples n
 none_above n h =
     rw (ne_eqb n 1 (λ e. omega (arith, e)), ne_eqb n 2 (λ e. omega (arith, e)), ne_eqb n 4 (λ e. omega (arith, e)), ne_eqb n 8 (λ e. omega (arith, e))) refl
 
--- the tests of a record
-pub record_good : (f : Frame) (up passes levels sizes first second r : Bool)
-    → up ≡ upsamples f.upsampling
-    → passes ≡ (leb 1 f.num_passes && leb f.num_passes 11)
-    → levels ≡ (leb f.lf_level 4 && leb f.group_size_shift 3)
-    → sizes ≡ (leb f.width 1073760511 && leb f.height 1073760511)
-    → first ≡ (up && passes)
-    → second ≡ (levels && sizes)
-    → r ≡ (first && second)
-    → r ≡ good_record f
-unfolding good_record
-record_good f up passes levels sizes first second r e1 e2 e3 e4 e5 e6 e7 = rw (← e1, ← e2, ← e3, ← e4, ← e5, ← e6) e7
-
 -- a size with no upsampling to divide by, and with one
 module _ (n u l : ℕ) (h : l ≤ 4) where
   pub sample_plain : (r : ℕ) → u ≤ 1 → r ≡ up n (1 * 2 ^ (3 * l) % 4294967296) → r ≡ sample n u l
@@ -55,34 +44,6 @@ module _ (n u l : ℕ) (h : l ≤ 4) where
   pub sample_divided : (q r : ℕ) → 1 < u → q ≡ up n u → r ≡ up q (1 * 2 ^ (3 * l) % 4294967296) → r ≡ sample n u l
   unfolding sample
   sample_divided q r t eq e = rw (lt-leb u 1 t, ← eight l h, ← eq) e
-
--- one section, or several
-module _ (groups lf passes : ℕ) (b : Bool) (e : b ≡ (eqb groups 1 && eqb passes 1)) where
-  pub sections_one : b ≡ true → 1 ≡ sections_of groups lf passes
-  unfolding sections_of
-  sections_one t = rw (← e, t)
-
-  pub sections_many : b ≡ false → 1 + lf + 1 + groups * passes ≡ sections_of groups lf passes
-  unfolding sections_of
-  sections_many t = rw (← e, t)
-
-pub grid_refused : (number : ℕ) (r : Refusal) → r ≡ refusal number 0
-    → ◌≡◌ {A = Grid} (record {
-      width = 0;
-      height = 0;
-      side = 0;
-      lf_side = 0;
-      columns = 0;
-      rows = 0;
-      lf_columns = 0;
-      lf_rows = 0;
-      groups = 0;
-      lf_groups = 0;
-      sections = 0;
-      refusal = r;
-    }) (refused_grid number)
-unfolding refused_grid
-grid_refused number r e = rw e
 
 -- what the check has counted, each number from those before it
 pub record Counts (f : Frame) (w h s a b la lb g l : ℕ) : Type 0 where
@@ -126,8 +87,9 @@ module _ {f : Frame} {w h s a b la lb g l : ℕ} (k : Counts f w h s a b la lb g
     sections_are : n ≡ sections f
     sections_are = rw (← k.width, ← k.height, ← k.side, ← k.columns, ← k.rows, ← k.lf_columns, ← k.lf_rows, ← k.groups, ← k.lf_groups) e
 
-    pub too_many_lem : (r : Grid) → 65536 < n → r ≡ refused_grid 10 → r ≡ pick (too_many f) (refused_grid 10) (laid f)
-    too_many_lem r t er = rw (lt-ltb 65536 (sections f) (rw (← sections_are) t)) er
+    pub too_many_lem : (r : Refusal) → 65536 < n → r ≡ refusal 10 0 → Err r ≡ grid_or_refused (pick (too_many f) (refused_grid 10) (laid f))
+    unfolding refused_grid
+    too_many_lem r t er = rw (er, lt-ltb 65536 (sections f) (rw (← sections_are) t))
 
     -- the counts fit where the sections do
     pub counts_few : n ≤ 65536 → (g ≤ 65536) × (l ≤ 65536)
@@ -136,7 +98,7 @@ module _ {f : Frame} {w h s a b la lb g l : ℕ} (k : Counts f w h s a b la lb g
         let l_le : l ≤ g = rw (groups_are, lf_groups_are) (lf_le w h s (omega (arith, sides))) in
         (g-few, omega arith)
 
-    pub all_laid : (r : Refusal) → n ≤ 65536 → r ≡ none → ◌≡◌ {A = Grid} (record {
+    pub all_laid : n ≤ 65536 → Ok (record {
       width = w;
       height = h;
       side = s;
@@ -148,22 +110,28 @@ module _ {f : Frame} {w h s a b la lb g l : ℕ} (k : Counts f w h s a b la lb g
       groups = g;
       lf_groups = l;
       sections = n;
-      refusal = r;
-    }) (pick (too_many f) (refused_grid 10) (laid f))
+    }) ≡ grid_or_refused (pick (too_many f) (refused_grid 10) (laid f))
     unfolding laid
-    all_laid r t er = rw (er, le-ltb 65536 (sections f) (rw (← sections_are) t), ← k.width, ← k.height, ← k.side, ← k.columns, ← k.rows, ← k.lf_columns, ← k.lf_rows, ← k.groups, ← k.lf_groups, ← e)
+    all_laid t = rw (le-ltb 65536 (sections f) (rw (← sections_are) t), ← k.width, ← k.height, ← k.side, ← k.columns, ← k.rows, ← k.lf_columns, ← k.lf_rows, ← k.groups, ← k.lf_groups, ← e)
 
 -- the check's four ways
 module _ (f : Frame) where
-  pub judged_bad : (b : Bool) (r : Grid) → b ≡ good_record f → not b ≡ true → r ≡ refused_grid 8 → r ≡ grid_of f
-  unfolding grid_of
-  judged_bad b r e t er = rw (← e, not-true b t) er
+  pub judged_bad : (r : Refusal) → good_record f ≡ false → r ≡ refusal 8 0 → Err r ≡ grid_or_refused (grid_of f)
+  unfolding grid_of refused_grid
+  judged_bad r t er = rw (er, t)
 
-  pub judged_zero : (b z : Bool) (r : Grid) → b ≡ good_record f → not b ≡ false → z ≡ zero_size f → z ≡ true → r ≡ refused_grid 9 → r ≡ grid_of f
-  unfolding grid_of
-  judged_zero b z r e t ez tz er = rw (← e, not-false b t, ← ez, tz) er
+  pub judged_zero : (r : Refusal) → good_record f ≡ true → zero_size f ≡ true → r ≡ refusal 9 0 → Err r ≡ grid_or_refused (grid_of f)
+  unfolding grid_of refused_grid
+  judged_zero r t z er = rw (er, t, z)
 
-  pub judged_counted : (b z : Bool) (r : Grid) → b ≡ good_record f → not b ≡ false → z ≡ zero_size f → z ≡ false
-      → r ≡ pick (too_many f) (refused_grid 10) (laid f) → r ≡ grid_of f
+  pub judged_counted : (r : Result Grid Refusal) → good_record f ≡ true → zero_size f ≡ false
+      → r ≡ grid_or_refused (pick (too_many f) (refused_grid 10) (laid f)) → r ≡ grid_or_refused (grid_of f)
   unfolding grid_of
-  judged_counted b z r e t ez tz er = rw (← e, not-false b t, ← ez, tz) er
+  judged_counted r t z er = rw (t, z) er
+
+  pub zero_by : (f.width ≡ 0) ⊎ ((f.width ≡ 0 → ⊥) × (f.height ≡ 0)) → zero_size f ≡ true
+  zero_by (inl e) = rw (eq-eqb f.width 0 e)
+  zero_by (inr e) = rw (eq-eqb f.height 0 e.1) (or-true (eqb f.width 0))
+
+  pub some_size : (f.width ≡ 0 → ⊥) → (f.height ≡ 0 → ⊥) → zero_size f ≡ false
+  some_size a b = rw (ne_eqb f.width 0 a, ne_eqb f.height 0 b)

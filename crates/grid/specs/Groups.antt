@@ -1,16 +1,13 @@
 -- Groups and LF groups: squares of one side that cover the picture row by row. They differ in the side alone.
-use Rattle.std.specs.Prelude.{ℕ, ◌+◌, ◌-◌, ◌*◌, ◌/◌, ◌%◌, min, Bool, false, ◌&&◌, ltb, eqb}
-use Rattle.bits.specs.Refusals.{pick, refusal, none}
+use Rattle.std.specs.Prelude.{ℕ, ◌+◌, ◌-◌, ◌*◌, ◌/◌, ◌%◌, min, Bool, false, ◌&&◌, ltb, eqb, Result, Ok, Err}
+use Rattle.bits.specs.Refusals.{pick, refusal, none, answered}
 use Rattle.bits.specs.declared.Refusal.{Refusal}
 use Rattle.grid.specs.declared.Frame.{Frame}
 use Rattle.grid.specs.declared.Grid.{Grid}
 use Rattle.grid.specs.declared.Rect.{Rect}
-use Rattle.grid.specs.declared.Number.{Number}
 use Rattle.grid.specs.declared.Size.{Size}
-use Rattle.grid.specs.declared.Placed.{Placed}
-use Rattle.grid.specs.declared.Touches.{Touches}
 use Rattle.grid.specs.Sizes.{up, sample, count}
-use Rattle.grid.specs.Measured.{grid_of}
+use Rattle.grid.specs.Measured.{Measured, grid_of}
 
 -- square i, unclipped
 unfoldable pub cell_of : ℕ → ℕ → ℕ → Rect
@@ -35,14 +32,49 @@ collides a b =
     && (ltb a.top (b.top + b.height) && ltb b.top (a.top + a.height))
 
 -- whether the frame has square i
-unfoldable pub has : Grid → ℕ → ℕ → Bool
+unfoldable pub has : Measured → ℕ → ℕ → Bool
 has g side i = ltb i (count g.width g.height side)
 
 -- the frame's own refusal first; then BadIndex (14), where it doesn't have what is asked for
-unfoldable pub judge : Grid → Bool → Refusal
+unfoldable pub judge : Measured → Bool → Refusal
 judge g known = pick (eqb g.refusal.number 0) (pick known none (refusal 14 0)) g.refusal
 
+-- the same of a check's answer, where the refusal of a frame is beside no grid
+abbrev pub judge_answer : Result Grid Refusal → Bool → Result Unit Refusal
+judge_answer (Ok g) known = pick known (Ok tt) (Err (refusal 14 0))
+judge_answer (Err r) known = Err r
+
 -- an answer: beside a refusal its value is 0, false or the empty rectangle
+pub record Number : Type 0 where
+  pub value : ℕ
+  pub refusal : Refusal
+
+pub record Touches : Type 0 where
+  pub value : Bool
+  pub refusal : Refusal
+
+pub record Placed : Type 0 where
+  pub rect : Rect
+  pub refusal : Refusal
+
+pub record Sized : Type 0 where
+  pub width : ℕ
+  pub height : ℕ
+  pub refusal : Refusal
+
+-- as the functions give it: the value, or why there is none
+abbrev pub number_or_refused : Number → Result ℕ Refusal
+number_or_refused n = answered n.refusal n.value
+
+abbrev pub touch_or_refused : Touches → Result Bool Refusal
+touch_or_refused t = answered t.refusal t.value
+
+abbrev pub rect_or_refused : Placed → Result Rect Refusal
+rect_or_refused p = answered p.refusal p.rect
+
+abbrev pub size_or_refused : Sized → Result Size Refusal
+size_or_refused s = answered s.refusal (record { width = s.width; height = s.height })
+
 unfoldable pub numbered : Refusal → ℕ → Number
 numbered r v = record { value = pick (eqb r.number 0) v 0; refusal = r }
 
@@ -57,26 +89,26 @@ unfoldable pub sampled : Frame → ℕ → ℕ → Number
 sampled f n upsampling = numbered (grid_of f).refusal (sample n upsampling f.lf_level)
 
 -- a number of the frame's grid
-abbrev pub told : Grid → ℕ → Number
+abbrev pub told : Measured → ℕ → Number
 told g v = record { value = v; refusal = g.refusal }
 
 -- the clipped rectangle of a group
-unfoldable pub rect_for : Grid → ℕ → ℕ → Placed
+unfoldable pub rect_for : Measured → ℕ → ℕ → Placed
 rect_for g side i = placed (judge g (has g side i)) (rect_of g.width g.height side i)
 
 -- its size alone
-unfoldable pub size_of : Placed → Size
+unfoldable pub size_of : Placed → Sized
 size_of p = record { width = p.rect.width; height = p.rect.height; refusal = p.refusal }
 
 -- the LF group that holds a group: eight columns and eight rows of groups to one of LF groups
-unfoldable pub lf_index_of : Grid → ℕ → Number
+unfoldable pub lf_index_of : Measured → ℕ → Number
 lf_index_of g i = numbered (judge g (has g g.side i)) (i % g.columns / 8 + i / g.columns / 8 * g.lf_columns)
 
 -- the group of a point, for any point inside an unclipped group
-unfoldable pub index_for : Grid → ℕ → ℕ → Number
+unfoldable pub index_for : Measured → ℕ → ℕ → Number
 index_for g x y =
     numbered (judge g (ltb (x / g.side) g.columns && ltb (y / g.side) g.rows)) (index_at g.columns g.side x y)
 
 -- whether a region and an unclipped group overlap
-unfoldable pub touch_for : Grid → ℕ → ℕ → Rect → Touches
+unfoldable pub touch_for : Measured → ℕ → ℕ → Rect → Touches
 touch_for g side i region = touching (judge g (has g side i)) (collides region (cell_of g.width side i))

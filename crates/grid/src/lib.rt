@@ -8,15 +8,16 @@ mod tiles;
 ghost use Rattle.std.specs.Prelude.{◌≡◌, true, false, ◌*◌, ◌<◌, ◌≤◌, ◌^◌};
 ghost use Rattle.bits.specs.Refusals.{pick};
 ghost use Rattle.grid.specs.Groups.{sampled, told, rect_for, size_of, touch_for, lf_index_of, index_for};
+ghost use Rattle.grid.specs.Groups.{number_or_refused, rect_or_refused, size_or_refused, touch_or_refused};
 ghost use Rattle.grid.specs.Sizes.{sample, sections_of};
-ghost use Rattle.grid.specs.Measured.{upsamples, good_record, zero_size, too_many, refused_grid, laid, grid_of};
+ghost use Rattle.grid.specs.Measured.{upsamples, good_record, zero_size, too_many, refused_grid, laid, grid_of, grid_or_refused};
 
 use bits::Refusal;
 use tiles::{count, div_ceil, has, rect_for, touch_for};
-pub use tiles::{is_aabb_collides, judge};
+pub use tiles::{found, is_aabb_collides, judge};
 
 // The numbers of a frame that its geometry needs.
-#[derive(Clone, Copy)]
+#[derive(Clone, Copy, Debug, PartialEq, Eq)]
 pub struct Frame {
     pub width: u32,
     pub height: u32,
@@ -27,8 +28,7 @@ pub struct Frame {
 }
 
 // What those six come to: the colour sample size, both sides, columns and rows of groups and LF groups, and how many sections there are.
-// All are 0 beside a refusal.
-#[derive(Clone, Copy)]
+#[derive(Clone, Copy, Debug, PartialEq, Eq)]
 pub struct Grid {
     pub width: u32,
     pub height: u32,
@@ -41,11 +41,10 @@ pub struct Grid {
     pub groups: u32,
     pub lf_groups: u32,
     pub sections: u32,
-    pub refusal: Refusal,
 }
 
 // A rectangle in samples.
-#[derive(Clone, Copy)]
+#[derive(Clone, Copy, Debug, PartialEq, Eq)]
 pub struct Rect {
     pub left: u32,
     pub top: u32,
@@ -53,30 +52,10 @@ pub struct Rect {
     pub height: u32,
 }
 
-// The answers: a value and a refusal, beside which the value is 0, false or the empty rectangle.
-#[derive(Clone, Copy)]
-pub struct Number {
-    pub value: u32,
-    pub refusal: Refusal,
-}
-
-#[derive(Clone, Copy)]
+#[derive(Clone, Copy, Debug, PartialEq, Eq)]
 pub struct Size {
     pub width: u32,
     pub height: u32,
-    pub refusal: Refusal,
-}
-
-#[derive(Clone, Copy)]
-pub struct Placed {
-    pub rect: Rect,
-    pub refusal: Refusal,
-}
-
-#[derive(Clone, Copy)]
-pub struct Touches {
-    pub value: bool,
-    pub refusal: Refusal,
 }
 
 // 1, 2, 4 or 8, by bits 1, 2, 4 and 8 of one number.
@@ -91,14 +70,15 @@ fn upsamples(n: u32) -> bool
 }
 
 // Refusal 8, BadRecord, is given exactly where this is false.
+#[tactic(auto, unfolding(crate::specs::Measured::good_record))]
 fn is_good(f: Frame) -> bool
     ensures { result ≡ good_record f }
 {
     let upsamples = upsamples(f.upsampling);
-    let passes = bits::both(1 <= f.num_passes, f.num_passes <= 11);
-    let levels = bits::both(f.lf_level <= 4, f.group_size_shift <= 3);
-    let sizes = bits::both(f.width <= 1073760511, f.height <= 1073760511);
-    bits::both(bits::both(upsamples, passes), bits::both(levels, sizes))
+    let passes = 1 <= f.num_passes && f.num_passes <= 11;
+    let levels = f.lf_level <= 4 && f.group_size_shift <= 3;
+    let sizes = f.width <= 1073760511 && f.height <= 1073760511;
+    (upsamples && passes) && (levels && sizes)
 }
 
 // A size in samples, as in `sample_width` of the Rust.
@@ -115,41 +95,22 @@ fn sample(n: u32, upsampling: u32, level: u32) -> u32
 }
 
 // How many sections so many groups, LF groups and passes give.
+#[tactic(auto, unfolding(crate::specs::Sizes::sections_of))]
 fn sections_of(groups: u64, lf: u64, passes: u64) -> u64
     requires { (groups < 2 ^ 48) × (lf < 2 ^ 48) × (passes ≤ 11) }
     ensures { result ≡ sections_of groups lf passes }
 {
-    if bits::both(groups == 1, passes == 1) {
+    if groups == 1 && passes == 1 {
         1
     } else {
         1 + lf + 1 + groups * passes
     }
 }
 
-// The grid of a refused frame.
-fn refused_grid(number: u32) -> Grid
-    ensures { result ≡ refused_grid number }
-{
-    Grid {
-        width: 0,
-        height: 0,
-        side: 0,
-        lf_side: 0,
-        columns: 0,
-        rows: 0,
-        lf_columns: 0,
-        lf_rows: 0,
-        groups: 0,
-        lf_groups: 0,
-        sections: 0,
-        refusal: bits::refused(number, 0),
-    }
-}
-
 // The grid of a frame whose record is good and whose size isn't zero, or refusal 10 over 65,536 sections: every product is exact.
-fn counted(f: Frame) -> Grid
+fn counted(f: Frame) -> Result<Grid, Refusal>
     requires { (good_record f ≡ true) × (zero_size f ≡ false) }
-    ensures { result ≡ pick (too_many f) (refused_grid 10) (laid f) }
+    ensures { result ≡ grid_or_refused (pick (too_many f) (refused_grid 10) (laid f)) }
 {
     let width = sample(f.width, f.upsampling, f.lf_level);
     let height = sample(f.height, f.upsampling, f.lf_level);
@@ -164,9 +125,9 @@ fn counted(f: Frame) -> Grid
     let lf_groups = count(lf_columns, lf_rows);
     let sections = sections_of(groups, lf_groups, f.num_passes as u64);
     if 65536 < sections {
-        return refused_grid(10);
+        return Err(bits::refused(10, 0));
     }
-    Grid {
+    Ok(Grid {
         width,
         height,
         side,
@@ -178,230 +139,192 @@ fn counted(f: Frame) -> Grid
         groups: groups as u32,
         lf_groups: lf_groups as u32,
         sections: sections as u32,
-        refusal: bits::accepted(),
-    }
+    })
 }
 
 // The one check of every function here: refusals 8, 9 and 10 in that order, all with place 0.
-pub fn measure(f: Frame) -> Grid
-    ensures { result ≡ grid_of f }
+pub fn measure(f: Frame) -> Result<Grid, Refusal>
+    ensures { result ≡ grid_or_refused (grid_of f) }
 {
     if !is_good(f) {
-        return refused_grid(8);
+        return Err(bits::refused(8, 0));
     }
-    if bits::either(f.width == 0, f.height == 0) {
-        return refused_grid(9);
+    if f.width == 0 || f.height == 0 {
+        return Err(bits::refused(9, 0));
     }
     counted(f)
 }
 
 // One of the frame's sizes in samples, or why there is none.
-fn sampled(f: Frame, n: u32, upsampling: u32) -> Number
-    ensures { result ≡ sampled f n upsampling }
+fn sampled(f: Frame, n: u32, upsampling: u32) -> Result<u32, Refusal>
+    ensures { result ≡ number_or_refused (sampled f n upsampling) }
 {
-    let g = measure(f);
-    let refusal = g.refusal;
-    if refusal.number == 0 {
-        Number {
-            value: sample(n, upsampling, f.lf_level),
-            refusal,
-        }
-    } else {
-        Number { value: 0, refusal }
-    }
+    measure(f)?;
+    Ok(sample(n, upsampling, f.lf_level))
 }
 
 // The frame's width in samples, for an upsampling that may be any number.
-pub fn sample_width(f: Frame, upsampling: u32) -> Number
-    ensures { result ≡ sampled f f.width upsampling }
+pub fn sample_width(f: Frame, upsampling: u32) -> Result<u32, Refusal>
+    ensures { result ≡ number_or_refused (sampled f f.width upsampling) }
 {
     sampled(f, f.width, upsampling)
 }
 
-pub fn sample_height(f: Frame, upsampling: u32) -> Number
-    ensures { result ≡ sampled f f.height upsampling }
+pub fn sample_height(f: Frame, upsampling: u32) -> Result<u32, Refusal>
+    ensures { result ≡ number_or_refused (sampled f f.height upsampling) }
 {
     sampled(f, f.height, upsampling)
 }
 
-// A number of the grid, which is 0 beside a refusal.
-fn told(g: Grid, value: u32) -> Number
-    ensures { result ≡ told g value }
-{
-    let refusal = g.refusal;
-    Number { value, refusal }
-}
-
 // The frame's size in colour samples.
-pub fn color_sample_width(f: Frame) -> Number
-    ensures { result ≡ told (grid_of f) (grid_of f).width }
+pub fn color_sample_width(f: Frame) -> Result<u32, Refusal>
+    ensures { result ≡ number_or_refused (told (grid_of f) (grid_of f).width) }
 {
-    let g = measure(f);
-    told(g, g.width)
+    let g = measure(f)?;
+    Ok(g.width)
 }
 
-pub fn color_sample_height(f: Frame) -> Number
-    ensures { result ≡ told (grid_of f) (grid_of f).height }
+pub fn color_sample_height(f: Frame) -> Result<u32, Refusal>
+    ensures { result ≡ number_or_refused (told (grid_of f) (grid_of f).height) }
 {
-    let g = measure(f);
-    told(g, g.height)
+    let g = measure(f)?;
+    Ok(g.height)
 }
 
 // The side of a group, and of an LF group.
-pub fn group_dim(f: Frame) -> Number
-    ensures { result ≡ told (grid_of f) (grid_of f).side }
+pub fn group_dim(f: Frame) -> Result<u32, Refusal>
+    ensures { result ≡ number_or_refused (told (grid_of f) (grid_of f).side) }
 {
-    let g = measure(f);
-    told(g, g.side)
+    let g = measure(f)?;
+    Ok(g.side)
 }
 
-pub fn lf_group_dim(f: Frame) -> Number
-    ensures { result ≡ told (grid_of f) (grid_of f).lf_side }
+pub fn lf_group_dim(f: Frame) -> Result<u32, Refusal>
+    ensures { result ≡ number_or_refused (told (grid_of f) (grid_of f).lf_side) }
 {
-    let g = measure(f);
-    told(g, g.lf_side)
+    let g = measure(f)?;
+    Ok(g.lf_side)
 }
 
 // How many stand in a row.
-pub fn groups_per_row(f: Frame) -> Number
-    ensures { result ≡ told (grid_of f) (grid_of f).columns }
+pub fn groups_per_row(f: Frame) -> Result<u32, Refusal>
+    ensures { result ≡ number_or_refused (told (grid_of f) (grid_of f).columns) }
 {
-    let g = measure(f);
-    told(g, g.columns)
+    let g = measure(f)?;
+    Ok(g.columns)
 }
 
-pub fn lf_groups_per_row(f: Frame) -> Number
-    ensures { result ≡ told (grid_of f) (grid_of f).lf_columns }
+pub fn lf_groups_per_row(f: Frame) -> Result<u32, Refusal>
+    ensures { result ≡ number_or_refused (told (grid_of f) (grid_of f).lf_columns) }
 {
-    let g = measure(f);
-    told(g, g.lf_columns)
+    let g = measure(f)?;
+    Ok(g.lf_columns)
 }
 
 // How many there are.
-pub fn num_groups(f: Frame) -> Number
-    ensures { result ≡ told (grid_of f) (grid_of f).groups }
+pub fn num_groups(f: Frame) -> Result<u32, Refusal>
+    ensures { result ≡ number_or_refused (told (grid_of f) (grid_of f).groups) }
 {
-    let g = measure(f);
-    told(g, g.groups)
+    let g = measure(f)?;
+    Ok(g.groups)
 }
 
-pub fn num_lf_groups(f: Frame) -> Number
-    ensures { result ≡ told (grid_of f) (grid_of f).lf_groups }
+pub fn num_lf_groups(f: Frame) -> Result<u32, Refusal>
+    ensures { result ≡ number_or_refused (told (grid_of f) (grid_of f).lf_groups) }
 {
-    let g = measure(f);
-    told(g, g.lf_groups)
+    let g = measure(f)?;
+    Ok(g.lf_groups)
 }
 
 // How many sections the frame has.
-pub fn section_count(f: Frame) -> Number
-    ensures { result ≡ told (grid_of f) (grid_of f).sections }
+pub fn section_count(f: Frame) -> Result<u32, Refusal>
+    ensures { result ≡ number_or_refused (told (grid_of f) (grid_of f).sections) }
 {
-    let g = measure(f);
-    told(g, g.sections)
+    let g = measure(f)?;
+    Ok(g.sections)
 }
 
 // The clipped rectangle of a group, with its origin.
-pub fn group_rect(f: Frame, group_idx: u32) -> Placed
-    ensures { result ≡ rect_for (grid_of f) (grid_of f).side group_idx }
+pub fn group_rect(f: Frame, group_idx: u32) -> Result<Rect, Refusal>
+    ensures { result ≡ rect_or_refused (rect_for (grid_of f) (grid_of f).side group_idx) }
 {
-    let g = measure(f);
+    let g = measure(f)?;
     rect_for(g, g.side, group_idx)
 }
 
 // The clipped rectangle of an LF group.
-pub fn lf_group_rect(f: Frame, lf_group_idx: u32) -> Placed
-    ensures { result ≡ rect_for (grid_of f) (grid_of f).lf_side lf_group_idx }
+pub fn lf_group_rect(f: Frame, lf_group_idx: u32) -> Result<Rect, Refusal>
+    ensures { result ≡ rect_or_refused (rect_for (grid_of f) (grid_of f).lf_side lf_group_idx) }
 {
-    let g = measure(f);
+    let g = measure(f)?;
     rect_for(g, g.lf_side, lf_group_idx)
 }
 
-// The size of a rectangle that was answered.
-fn size_of(p: Placed) -> Size
-    ensures { result ≡ size_of p }
+// The size of a rectangle.
+fn size_of(rect: Rect) -> Size
+    ensures { result ≡ record { width = rect.width; height = rect.height } }
 {
-    let rect = p.rect;
-    let refusal = p.refusal;
     Size {
         width: rect.width,
         height: rect.height,
-        refusal,
     }
 }
 
 // The size of a group, clipped.
-pub fn group_size_for(f: Frame, group_idx: u32) -> Size
-    ensures { result ≡ size_of (rect_for (grid_of f) (grid_of f).side group_idx) }
+pub fn group_size_for(f: Frame, group_idx: u32) -> Result<Size, Refusal>
+    ensures { result ≡ size_or_refused (size_of (rect_for (grid_of f) (grid_of f).side group_idx)) }
 {
-    size_of(group_rect(f, group_idx))
+    Ok(size_of(group_rect(f, group_idx)?))
 }
 
 // The size of an LF group, clipped.
-pub fn lf_group_size_for(f: Frame, lf_group_idx: u32) -> Size
-    ensures { result ≡ size_of (rect_for (grid_of f) (grid_of f).lf_side lf_group_idx) }
+pub fn lf_group_size_for(f: Frame, lf_group_idx: u32) -> Result<Size, Refusal>
+    ensures { result ≡ size_or_refused (size_of (rect_for (grid_of f) (grid_of f).lf_side lf_group_idx)) }
 {
-    size_of(lf_group_rect(f, lf_group_idx))
+    Ok(size_of(lf_group_rect(f, lf_group_idx)?))
 }
 
 // Whether a region overlaps a group, unclipped.
-pub fn is_group_collides_region(f: Frame, group_idx: u32, region: Rect) -> Touches
-    ensures { result ≡ touch_for (grid_of f) (grid_of f).side group_idx region }
+pub fn is_group_collides_region(f: Frame, group_idx: u32, region: Rect) -> Result<bool, Refusal>
+    ensures { result ≡ touch_or_refused (touch_for (grid_of f) (grid_of f).side group_idx region) }
 {
-    let g = measure(f);
+    let g = measure(f)?;
     touch_for(g, g.side, group_idx, region)
 }
 
 // Whether a region overlaps an LF group, unclipped.
-pub fn is_lf_group_collides_region(f: Frame, lf_group_idx: u32, region: Rect) -> Touches
-    ensures { result ≡ touch_for (grid_of f) (grid_of f).lf_side lf_group_idx region }
+pub fn is_lf_group_collides_region(
+    f: Frame,
+    lf_group_idx: u32,
+    region: Rect,
+) -> Result<bool, Refusal>
+    ensures { result ≡ touch_or_refused (touch_for (grid_of f) (grid_of f).lf_side lf_group_idx region) }
 {
-    let g = measure(f);
+    let g = measure(f)?;
     touch_for(g, g.lf_side, lf_group_idx, region)
 }
 
 // The LF group that holds a group.
-pub fn lf_group_idx_from_group_idx(f: Frame, group_idx: u32) -> Number
-    ensures { result ≡ lf_index_of (grid_of f) group_idx }
+pub fn lf_group_idx_from_group_idx(f: Frame, group_idx: u32) -> Result<u32, Refusal>
+    ensures { result ≡ number_or_refused (lf_index_of (grid_of f) group_idx) }
 {
-    let g = measure(f);
-    let known = has(g, g.side, group_idx);
-    let refusal = judge(g, known);
-    if refusal.number != 0 {
-        return Number { value: 0, refusal };
-    }
+    let g = measure(f)?;
+    found(has(g, g.side, group_idx))?;
     let columns = g.columns;
     let across = (group_idx % columns) / 8;
     let down = (group_idx / columns) / 8;
-    Number {
-        value: across + down * g.lf_columns,
-        refusal,
-    }
+    Ok(across + down * g.lf_columns)
 }
 
 // The group of a point, which may lie beyond the picture but inside an unclipped group. The side is written as the power of two that it is,
 // so that dividing by it is a shift.
-pub fn group_idx_from_coord(f: Frame, x: u32, y: u32) -> Number
-    ensures { result ≡ index_for (grid_of f) x y }
+pub fn group_idx_from_coord(f: Frame, x: u32, y: u32) -> Result<u32, Refusal>
+    ensures { result ≡ number_or_refused (index_for (grid_of f) x y) }
 {
-    let g = measure(f);
-    let own = g.refusal;
-    if own.number != 0 {
-        return Number {
-            value: 0,
-            refusal: own,
-        };
-    }
-    let power = f.group_size_shift;
-    let side = 128u32 << power;
+    let g = measure(f)?;
+    let side = 128u32 << f.group_size_shift;
     let column = x / side;
     let row = y / side;
-    let known = bits::both(column < g.columns, row < g.rows);
-    let refusal = judge(g, known);
-    if refusal.number != 0 {
-        return Number { value: 0, refusal };
-    }
-    Number {
-        value: row * g.columns + column,
-        refusal,
-    }
+    found(column < g.columns && row < g.rows)?;
+    Ok(row * g.columns + column)
 }

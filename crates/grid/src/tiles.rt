@@ -1,12 +1,14 @@
 // Squares of one side that cover a picture, row by row: groups and LF groups differ in the side alone.
-ghost use Rattle.std.specs.Prelude.{◌≡◌, true, ◌+◌, ◌-◌, ◌*◌, min, ltb};
+ghost use Rattle.std.specs.Prelude.{◌≡◌, true, ◌+◌, ◌-◌, ◌*◌, min, ltb, Ok, Err};
 ghost use Rattle.grid.specs.Sizes.{up};
-ghost use Rattle.grid.specs.Groups.{has, judge, cell_of, clipped, collides, rect_for, touch_for};
+ghost use Rattle.grid.specs.Measured.{unrefused};
+ghost use Rattle.grid.specs.Groups.{has, judge_answer, cell_of, clipped, collides, rect_for, touch_for, rect_or_refused, touch_or_refused};
+ghost use Rattle.bits.specs.Refusals.{pick, refusal};
 
-use crate::{Grid, Placed, Rect, Touches};
+use crate::{Grid, Rect};
 use bits::Refusal;
 
-// a / b rounded up, as `u32::div_ceil`; 0 where b is 0. Nothing wraps.
+// a / b rounded up; 0 where b is 0, which `u32::div_ceil` asks its callers to rule out. Nothing wraps.
 pub fn div_ceil(a: u32, b: u32) -> u32
     ensures { result ≡ up a b }
 {
@@ -23,37 +25,40 @@ pub fn div_ceil(a: u32, b: u32) -> u32
 pub fn count(a: u32, b: u32) -> u64
     ensures { result ≡ a * b }
 {
-    let product = (a as u64) * (b as u64);
-    product
+    (a as u64) * (b as u64)
 }
 
 // Whether the frame has square i of a side: a refused frame has none.
 pub fn has(g: Grid, side: u32, i: u32) -> bool
-    ensures { result ≡ has g side i }
+    ensures { result ≡ has (unrefused g) side i }
 {
     let columns = div_ceil(g.width, side);
     let rows = div_ceil(g.height, side);
     (i as u64) < count(columns, rows)
 }
 
-// The frame's own refusal, or 14 where it doesn't have what is asked for, or none.
-pub fn judge(g: Grid, known: bool) -> Refusal
-    ensures { result ≡ judge g known }
+// 14 where the frame doesn't have what is asked for.
+pub fn found(known: bool) -> Result<(), Refusal>
+    ensures { result ≡ pick known (Ok tt) (Err (refusal 14 0)) }
 {
-    let refusal = g.refusal;
-    if refusal.number != 0 {
-        return refusal;
-    }
     if known {
-        bits::accepted()
+        Ok(())
     } else {
-        bits::refused(14, 0)
+        Err(bits::refused(14, 0))
     }
+}
+
+// The frame's own refusal, or 14 where it doesn't have what is asked for, or none.
+pub fn judge(g: Result<Grid, Refusal>, known: bool) -> Result<(), Refusal>
+    ensures { result ≡ judge_answer g known }
+{
+    g?;
+    found(known)
 }
 
 // Square i of a side, unclipped.
 fn cell(g: Grid, side: u32, i: u32) -> Rect
-    requires { has g side i ≡ true }
+    requires { has (unrefused g) side i ≡ true }
     ensures { result ≡ cell_of g.width side i }
 {
     let per_row = div_ceil(g.width, side);
@@ -69,14 +74,7 @@ fn cell(g: Grid, side: u32, i: u32) -> Rect
 fn within(start: u32, length: u32, end: u32) -> u32
     ensures { result ≡ min length (end - start) }
 {
-    if end <= start {
-        return 0;
-    }
-    if length < end - start {
-        length
-    } else {
-        end - start
-    }
+    length.min(end.saturating_sub(start))
 }
 
 // What of a rectangle lies in a width and a height.
@@ -92,25 +90,11 @@ fn clip(width: u32, height: u32, r: Rect) -> Rect
 }
 
 // The clipped rectangle of square i, or why there is none.
-pub fn rect_for(g: Grid, side: u32, i: u32) -> Placed
-    ensures { result ≡ rect_for g side i }
+pub fn rect_for(g: Grid, side: u32, i: u32) -> Result<Rect, Refusal>
+    ensures { result ≡ rect_or_refused (rect_for (unrefused g) side i) }
 {
-    let known = has(g, side, i);
-    let refusal = judge(g, known);
-    if refusal.number == 0 {
-        let rect = clip(g.width, g.height, cell(g, side, i));
-        Placed { rect, refusal }
-    } else {
-        Placed {
-            rect: Rect {
-                left: 0,
-                top: 0,
-                width: 0,
-                height: 0,
-            },
-            refusal,
-        }
-    }
+    found(has(g, side, i))?;
+    Ok(clip(g.width, g.height, cell(g, side, i)))
 }
 
 // Whether the sum of a start and a length lies beyond a point; the sum is exact.
@@ -121,35 +105,19 @@ fn reaches(start: u32, length: u32, point: u32) -> bool
 }
 
 // The four strict comparisons of the Rust's function of this name.
+#[tactic(auto, unfolding(crate::specs::Groups::collides))]
 pub fn is_aabb_collides(a: Rect, b: Rect) -> bool
     ensures { result ≡ collides a b }
 {
-    let across = bits::both(
-        reaches(b.left, b.width, a.left),
-        reaches(a.left, a.width, b.left),
-    );
-    let down = bits::both(
-        reaches(b.top, b.height, a.top),
-        reaches(a.top, a.height, b.top),
-    );
-    bits::both(across, down)
+    let across = reaches(b.left, b.width, a.left) && reaches(a.left, a.width, b.left);
+    let down = reaches(b.top, b.height, a.top) && reaches(a.top, a.height, b.top);
+    across && down
 }
 
 // Whether a region and square i, unclipped, overlap.
-pub fn touch_for(g: Grid, side: u32, i: u32, region: Rect) -> Touches
-    ensures { result ≡ touch_for g side i region }
+pub fn touch_for(g: Grid, side: u32, i: u32, region: Rect) -> Result<bool, Refusal>
+    ensures { result ≡ touch_or_refused (touch_for (unrefused g) side i region) }
 {
-    let known = has(g, side, i);
-    let refusal = judge(g, known);
-    if refusal.number == 0 {
-        Touches {
-            value: is_aabb_collides(region, cell(g, side, i)),
-            refusal,
-        }
-    } else {
-        Touches {
-            value: false,
-            refusal,
-        }
-    }
+    found(has(g, side, i))?;
+    Ok(is_aabb_collides(region, cell(g, side, i)))
 }

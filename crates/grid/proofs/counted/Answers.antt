@@ -46,7 +46,7 @@ pub sections_of-sections-requires : goal.sections_of-sections-requires
 sections_of-sections-requires c = counts_small (counts _ _ _ _ _ _ _ _ _ c.requires c.sample-width.ensures c.sample-height.ensures c.div_ceil-columns.ensures c.div_ceil-rows.ensures c.div_ceil-lf_columns.ensures c.div_ceil-lf_rows.ensures c.count-groups.ensures c.count-lf_groups.ensures)
 
 pub returns-then-sections-gt65536 : goal.returns-then-sections-gt65536
-returns-then-sections-gt65536 c = too_many_lem (counts _ _ _ _ _ _ _ _ _ c.requires c.sample-width.ensures c.sample-height.ensures c.div_ceil-columns.ensures c.div_ceil-rows.ensures c.div_ceil-lf_columns.ensures c.div_ceil-lf_rows.ensures c.count-groups.ensures c.count-lf_groups.ensures) _ c.sections_of-sections.ensures _ c.if-sections-gt65536.true c.refused_grid.ensures
+returns-then-sections-gt65536 c = too_many_lem (counts _ _ _ _ _ _ _ _ _ c.requires c.sample-width.ensures c.sample-height.ensures c.div_ceil-columns.ensures c.div_ceil-rows.ensures c.div_ceil-lf_columns.ensures c.div_ceil-lf_rows.ensures c.count-groups.ensures c.count-lf_groups.ensures) _ c.sections_of-sections.ensures _ c.if-sections-gt65536.true c.refused.ensures
 
 pub overflow_cast-result : goal.overflow_cast-result
 overflow_cast-result c = record { fits = omega (arith, counts_few (counts _ _ _ _ _ _ _ _ _ c.requires c.sample-width.ensures c.sample-height.ensures c.div_ceil-columns.ensures c.div_ceil-rows.ensures c.div_ceil-lf_columns.ensures c.div_ceil-lf_rows.ensures c.count-groups.ensures c.count-lf_groups.ensures) _ c.sections_of-sections.ensures c.if-sections-gt65536.false) }
@@ -55,4 +55,4 @@ pub overflow_cast-result-2 : goal.overflow_cast-result-2
 overflow_cast-result-2 c = record { fits = omega (arith, counts_few (counts _ _ _ _ _ _ _ _ _ c.requires c.sample-width.ensures c.sample-height.ensures c.div_ceil-columns.ensures c.div_ceil-rows.ensures c.div_ceil-lf_columns.ensures c.div_ceil-lf_rows.ensures c.count-groups.ensures c.count-lf_groups.ensures) _ c.sections_of-sections.ensures c.if-sections-gt65536.false) }
 
 pub returns : goal.returns
-returns c = all_laid (counts _ _ _ _ _ _ _ _ _ c.requires c.sample-width.ensures c.sample-height.ensures c.div_ceil-columns.ensures c.div_ceil-rows.ensures c.div_ceil-lf_columns.ensures c.div_ceil-lf_rows.ensures c.count-groups.ensures c.count-lf_groups.ensures) _ c.sections_of-sections.ensures _ c.if-sections-gt65536.false c.accepted.ensures
+returns c = all_laid (counts _ _ _ _ _ _ _ _ _ c.requires c.sample-width.ensures c.sample-height.ensures c.div_ceil-columns.ensures c.div_ceil-rows.ensures c.div_ceil-lf_columns.ensures c.div_ceil-lf_rows.ensures c.count-groups.ensures c.count-lf_groups.ensures) _ c.sections_of-sections.ensures c.if-sections-gt65536.false

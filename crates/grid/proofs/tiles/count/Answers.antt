@@ -3,5 +3,5 @@ use borrow.Author.Rules.{rules}
 use Rattle.grid.proofs.Rounding.{below}
 use Rattle.grid.proofs.tiles.count.Goals as goal
 
-pub overflow_mul-product : goal.overflow_mul-product
-overflow_mul-product c = record { fits = below 32 (search rules) (search rules) }
+pub overflow_mul-result : goal.overflow_mul-result
+overflow_mul-result c = record { fits = below 32 (search rules) (search rules) }
