@@ -9,3 +9,4 @@ pub mod Reading
 pub mod Once
 pub mod Columns
 pub mod Values
+pub mod Answered

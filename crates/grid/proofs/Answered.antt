@@ -1,12 +1,9 @@
--- Laws of an answer or a refusal: what an `Ok` and an `Err` say, and what the functions of the grid give.
+-- Laws of an answer or a refusal, as the functions of the grid give them.
 use Prim.Native.Nat.{ℕ}
 use native.Mathlib.Omega.{arith}
-use mathlib.Core.Path.{◌≡◌, refl, sym, ◌∙◌, ap}
+use mathlib.Core.Path.{◌≡◌, refl, sym, ◌∙◌}
 use mathlib.Core.Bool.{Bool, true, false}
 use Rattle.std.specs.Prelude.{Result, Ok, Err}
-use Rattle.std.specs.Result.{IsErrAnd}
-use Rattle.std.proofs.lemmas.Result.{err_from_is_err_and}
-use borrow.Author.Tests.{eq-eqb, ne_eqb, eqb-true, eqb-false}
 use lib.Dec.{eqb}
 use Rattle.bits.specs.Refusals.{pick, refusal, none, answered}
 use Rattle.bits.specs.declared.Refusal.{Refusal}
@@ -15,44 +12,8 @@ use Rattle.grid.specs.declared.Grid.{Grid}
 use Rattle.grid.specs.declared.Rect.{Rect}
 use Rattle.grid.specs.Measured.{Measured, unrefused, grid_in, grid_or_refused, good_record, zero_size, too_many, laid, refused_grid, grid_of}
 use Rattle.grid.specs.Groups.{Placed, judge, judge_answer, numbered, placed, touching, size_of, number_or_refused, rect_or_refused, size_or_refused, touch_or_refused}
+use Rattle.bits.proofs.Answered.{answered_yes, answered_no, answered_ok, answered_err, beside}
 use Rattle.grid.proofs.Answers.{judge_refused}
-
-module _ {A : Type 0} (r : Refusal) (a : A) where
-  pub answered_yes : r.number ≡ 0 → answered r a ≡ Ok a
-  answered_yes z = rw (eq-eqb r.number 0 z)
-
-  pub answered_no : (r.number ≡ 0 → ⊥) → answered r a ≡ Err r
-  answered_no h = rw (ne_eqb r.number 0 h)
-
-ok_by : {A : Type 0} (t : Bool) (r : Refusal) (a b : A) → pick t (Ok a) (Err r) ≡ Ok b → (t ≡ true) × (a ≡ b)
-ok_by true r a b e = (refl, cc)
-ok_by false r a b e = (cc, cc)
-
-err_by : {A : Type 0} (t : Bool) (r s : Refusal) (a : A) → pick t (Ok a) (Err r) ≡ Err s → (t ≡ false) × (r ≡ s)
-err_by true r s a e = (cc, cc)
-err_by false r s a e = (refl, cc)
-
--- the value that stands beside a refusal doesn't matter
-chosen : {A : Type 0} (t : Bool) (a c : A) (e : Result A Refusal) → pick t (Ok a) e ≡ pick t (Ok (pick t a c)) e
-chosen true a c e = refl
-chosen false a c e = refl
-
--- what a `?` hands on
-pub handed : {A : Type 0} (r : Result A Refusal) (e : Refusal) → IsErrAnd r (λ (d : Refusal). d ≡ e) → r ≡ Err e
-handed r e h =
-    let p = err_from_is_err_and r h in
-    p.1 ∙ ap Err p.2
-
--- what an answer says, and what a refusal says
-pub answered_ok : {A : Type 0} (r : Refusal) (a b : A) → answered r a ≡ Ok b → (r.number ≡ 0) × (a ≡ b)
-answered_ok r a b e =
-    let w = ok_by (eqb r.number 0) r a b e in
-    (eqb-true r.number 0 w.0, w.1)
-
-pub answered_err : {A : Type 0} (r s : Refusal) (a : A) → answered r a ≡ Err s → (r.number ≡ 0 → ⊥) × (r ≡ s)
-answered_err r s a e =
-    let w = err_by (eqb r.number 0) r s a e in
-    (eqb-false r.number 0 w.0, w.1)
 
 -- beside none a grid is itself
 number_none : (a z m : Bool) (l : Measured) → l.refusal ≡ none
@@ -93,15 +54,15 @@ module _ (f : Frame) where
 -- the answers, each as its refusal and its value
 pub number_given : (r : Refusal) (v : ℕ) → answered r v ≡ number_or_refused (numbered r v)
 unfolding numbered
-number_given r v = chosen (eqb r.number 0) v 0 (Err r)
+number_given r v = beside r v 0
 
 pub rect_given : (r : Refusal) (a : Rect) → answered r a ≡ rect_or_refused (placed r a)
 unfolding placed
-rect_given r a = chosen (eqb r.number 0) a (record { left = 0; top = 0; width = 0; height = 0 }) (Err r)
+rect_given r a = beside r a (record { left = 0; top = 0; width = 0; height = 0 })
 
 pub touch_given : (r : Refusal) (b : Bool) → answered r b ≡ touch_or_refused (touching r b)
 unfolding touching
-touch_given r b = chosen (eqb r.number 0) b false (Err r)
+touch_given r b = beside r b false
 
 -- a judgement of what an accepted frame has, or hasn't, by what `found` answered
 module _ {A : Type 0} (g : Grid) (a : A) where

@@ -1,14 +1,16 @@
 -- Laws of the check: the parts of an order, which refusal each way of the check gives, and what an acceptance says.
 use Prim.Native.Nat.{ℕ, ◌≤◌, ◌<◌}
 use native.Mathlib.Omega.{arith}
-use mathlib.Core.Path.{◌≡◌, ap}
+use mathlib.Core.Path.{◌≡◌, sym, ap}
 use mathlib.Core.List.{List}
 use mathlib.Core.Bool.{true, false, ◌&&◌}
 use lib.ListN.{length, replicate, length-replicate, get_or-replicate}
 use lib.Dec.{ltb}
 use borrow.Author.Tests.{lt-ltb, le-ltb, ltb-true, ltb-false, eq-eqb, ne_eqb}
 use Rattle.bits.specs.declared.Refusal.{Refusal}
-use Rattle.bits.specs.Refusals.{refusal, none}
+use Rattle.bits.specs.Refusals.{refusal, none, answered}
+use Rattle.bits.proofs.Answered.{answered_ok}
+use Rattle.std.specs.Prelude.{Result, Ok, Err}
 use Rattle.order.specs.Order.{all_below, distinct, is_order, checked}
 use Rattle.order.specs.Private.{Unmarked}
 use Rattle.order.proofs.Entries.{split}
@@ -51,3 +53,18 @@ module _ (count : ℕ) (l : List ℕ) where
       split (is_order count l)
       (λ o. (small, o))
       (λ o. absurd (omega (arith, ap number (checked_bad small o)))))
+
+  -- the same as answers
+  pub check_many : 65536 < count → ◌≡◌ {A = Result (Unit {0}) Refusal} (Err (refusal 10 0)) (answered (checked count l) (tt {0}))
+  check_many h = rw (← checked_many h)
+
+  pub check_good : count ≤ 65536 → is_order count l ≡ true → ◌≡◌ {A = Result (Unit {0}) Refusal} (Ok tt) (answered (checked count l) (tt {0}))
+  check_good h t = rw (← checked_good h t)
+
+  pub check_bad : count ≤ 65536 → is_order count l ≡ false → ◌≡◌ {A = Result (Unit {0}) Refusal} (Err (refusal 13 0)) (answered (checked count l) (tt {0}))
+  check_bad h t = rw (← checked_bad h t)
+
+  pub check_passed : (u : Unit {0}) → Ok u ≡ answered (checked count l) (tt {0}) → none ≡ checked count l
+  check_passed u e =
+      let ok = accepted (answered_ok (checked count l) (tt {0}) u (sym e)).0 in
+      checked_good ok.0 ok.1

@@ -1,13 +1,33 @@
 -- A section number and a sent number are different kinds, turned into one another through the two order tables alone.
-use Rattle.std.specs.Prelude.{ℕ, List, get_or, eqb, ltb}
+use Rattle.std.specs.Prelude.{ℕ, List, get_or, eqb, ltb, Result}
 use Rattle.bits.specs.declared.Refusal.{Refusal}
-use Rattle.bits.specs.Refusals.{pick, refusal, none}
+use Rattle.bits.specs.Refusals.{pick, refusal, none, answered}
 use Rattle.order.specs.declared.SectionNumber.{SectionNumber}
 use Rattle.order.specs.declared.SentNumber.{SentNumber}
-use Rattle.order.specs.declared.Entry.{Entry}
-use Rattle.order.specs.declared.SentAnswer.{SentAnswer}
-use Rattle.order.specs.declared.SectionAnswer.{SectionAnswer}
 use Rattle.order.specs.Order.{checked}
+
+-- a word of a table, and the two kinds of number, each with a refusal, beside which it is 0
+pub record Entry : Type 0 where
+  pub word : ℕ
+  pub refusal : Refusal
+
+pub record SentAnswer : Type 0 where
+  pub sent : SentNumber
+  pub refusal : Refusal
+
+pub record SectionAnswer : Type 0 where
+  pub section : SectionNumber
+  pub refusal : Refusal
+
+-- as the functions give them: the number, or why there is none
+abbrev pub word_or_refused : Entry → Result ℕ Refusal
+word_or_refused e = answered e.refusal e.word
+
+abbrev pub sent_or_refused : SentAnswer → Result SentNumber Refusal
+sent_or_refused a = answered a.refusal a.sent
+
+abbrev pub section_or_refused : SectionAnswer → Result SectionNumber Refusal
+section_or_refused a = answered a.refusal a.section
 
 -- a lent order is judged whole, 10 then 13; then a number not below count is 14
 unfoldable pub looked_up : List ℕ → ℕ → ℕ → Refusal

@@ -6,45 +6,26 @@
 ghost use Rattle.std.specs.Prelude.{◌≡◌, ◌&&◌, ◌≤◌, length};
 ghost use Rattle.order.specs.Order.{all_below, distinct, is_order, checked};
 ghost use Rattle.order.specs.Private.{Unmarked};
-ghost use Rattle.order.specs.Numbers.{entry_at, sent_of, section_of};
+ghost use Rattle.order.specs.Numbers.{entry_at, sent_of, section_of, word_or_refused, sent_or_refused, section_or_refused};
+ghost use Rattle.bits.specs.Refusals.{answered};
+
+use bits::Refusal;
 
 // The number of a section in the frame's own sequence: LfGlobal, LfGroups, HfGlobal, then for each pass its groups.
-#[derive(Clone, Copy)]
+#[derive(Clone, Copy, Debug, PartialEq, Eq)]
 pub struct SectionNumber(pub u32);
 
 // The number of a section in the sequence in which it is sent.
-#[derive(Clone, Copy)]
+#[derive(Clone, Copy, Debug, PartialEq, Eq)]
 pub struct SentNumber(pub u32);
-
-// A word of an order table, or why there is none.
-#[derive(Clone, Copy)]
-struct Entry {
-    word: u32,
-    refusal: bits::Refusal,
-}
-
-// A section's sent number, or why there is none.
-#[derive(Clone, Copy)]
-pub struct SentAnswer {
-    pub sent: SentNumber,
-    pub refusal: bits::Refusal,
-}
-
-// The section of a sent number, or why there is none.
-#[derive(Clone, Copy)]
-pub struct SectionAnswer {
-    pub section: SectionNumber,
-    pub refusal: bits::Refusal,
-}
 
 // Whether every entry is below n and none occurs twice, by a mark for each number that has occurred: one walk.
 fn mark_all(order: &[u32], n: usize, marks: &mut [u8]) -> bool
     requires { (length order.now ≡ n) × Unmarked n marks.old }
     ensures { result ≡ (all_below n order.now && distinct order.now) }
 {
-    let mut i: usize = 0;
-    while i < n {
-        let k = order[i] as usize;
+    for entry in order {
+        let k = *entry as usize;
         if n <= k {
             return false;
         }
@@ -52,7 +33,6 @@ fn mark_all(order: &[u32], n: usize, marks: &mut [u8]) -> bool
             return false;
         }
         marks[k] = 1;
-        i += 1;
     }
     true
 }
@@ -75,60 +55,43 @@ fn is_order(order: &[u32], count: u32) -> bool
 }
 
 // Judges a lent order: over 65,536 sections is 10; not exactly count entries, or no permutation of 0 to count - 1, is 13.
-pub fn check_order(order: &[u32], count: u32) -> bits::Refusal
-    ensures { result ≡ checked count order.now }
+pub fn check_order(order: &[u32], count: u32) -> Result<(), Refusal>
+    ensures { result ≡ answered (checked count order.now) tt }
 {
     if 65536 < count {
-        return bits::refused(10, 0);
+        return Err(bits::refused(10, 0));
     }
     if is_order(order, count) {
-        bits::accepted()
+        Ok(())
     } else {
-        bits::refused(13, 0)
+        Err(bits::refused(13, 0))
     }
 }
 
 // A word of an order table. The rules have every lent order judged whole, so this walks the table once: it takes no constant time.
-fn look(table: &[u32], count: u32, index: u32) -> Entry
-    ensures { result ≡ entry_at table.now count index }
+fn look(table: &[u32], count: u32, index: u32) -> Result<u32, Refusal>
+    ensures { result ≡ word_or_refused (entry_at table.now count index) }
 {
-    let refusal = check_order(table, count);
-    if refusal.number != 0 {
-        return Entry { word: 0, refusal };
-    }
+    check_order(table, count)?;
     if count <= index {
-        return Entry {
-            word: 0,
-            refusal: bits::refused(14, 0),
-        };
+        return Err(bits::refused(14, 0));
     }
     let i = index as usize;
-    Entry {
-        word: table[i],
-        refusal,
-    }
+    Ok(table[i])
 }
 
 // From a section number to its sent number, through the order: 10, 13, then 14 where the frame has no such section.
-pub fn sent_of(order: &[u32], count: u32, section: SectionNumber) -> SentAnswer
-    ensures { result ≡ sent_of order.now count section }
+pub fn sent_of(order: &[u32], count: u32, section: SectionNumber) -> Result<SentNumber, Refusal>
+    ensures { result ≡ sent_or_refused (sent_of order.now count section) }
 {
-    let e = look(order, count, section.0);
-    let refusal = e.refusal;
-    SentAnswer {
-        sent: SentNumber(e.word),
-        refusal,
-    }
+    let word = look(order, count, section.0)?;
+    Ok(SentNumber(word))
 }
 
 // From a sent number to its section number, through the inverse: 10, 13, then 14 where nothing has that sent number.
-pub fn section_of(inverse: &[u32], count: u32, sent: SentNumber) -> SectionAnswer
-    ensures { result ≡ section_of inverse.now count sent }
+pub fn section_of(inverse: &[u32], count: u32, sent: SentNumber) -> Result<SectionNumber, Refusal>
+    ensures { result ≡ section_or_refused (section_of inverse.now count sent) }
 {
-    let e = look(inverse, count, sent.0);
-    let refusal = e.refusal;
-    SectionAnswer {
-        section: SectionNumber(e.word),
-        refusal,
-    }
+    let word = look(inverse, count, sent.0)?;
+    Ok(SectionNumber(word))
 }

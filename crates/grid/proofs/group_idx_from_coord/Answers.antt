@@ -1,6 +1,6 @@
 -- `group_idx_from_coord`: an accepted frame has a side, and the number of a point's group is below the count.
 use Rattle.std.proofs.Common.{◌∙◌, arith, rules}
-use Rattle.grid.proofs.Answered.{handed}
+use Rattle.bits.proofs.Answered.{handed}
 use Rattle.grid.proofs.Lookups.{measured_sound, index_own, index_no, index_yes, index_lt}
 use Rattle.grid.proofs.group_idx_from_coord.Goals as goal
 

@@ -1,6 +1,7 @@
 -- `group_size_for`: the size of a rectangle, or its refusal.
 use Rattle.std.proofs.Common.{◌∙◌}
-use Rattle.grid.proofs.Answered.{handed, size_yes, size_no}
+use Rattle.bits.proofs.Answered.{handed}
+use Rattle.grid.proofs.Answered.{size_yes, size_no}
 use Rattle.grid.proofs.group_size_for.Goals as goal
 
 pub returns-in_err-group_rect : goal.returns-in_err-group_rect

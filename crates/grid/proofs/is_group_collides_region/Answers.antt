@@ -2,7 +2,8 @@
 use Rattle.std.proofs.Common.{◌∙◌}
 use Rattle.grid.specs.Groups.{touch_for, touch_or_refused}
 use Rattle.grid.proofs.Answers.{asked}
-use Rattle.grid.proofs.Answered.{handed, measured_ok}
+use Rattle.bits.proofs.Answered.{handed}
+use Rattle.grid.proofs.Answered.{measured_ok}
 use Rattle.grid.proofs.Lookups.{touch_own}
 use Rattle.grid.proofs.is_group_collides_region.Goals as goal
 

@@ -1,6 +1,6 @@
 -- `lf_group_idx_from_group_idx`: an accepted frame has a column, and the answer is no larger than the group's number.
 use Rattle.std.proofs.Common.{◌∙◌, arith}
-use Rattle.grid.proofs.Answered.{handed}
+use Rattle.bits.proofs.Answered.{handed}
 use Rattle.grid.proofs.Lookups.{lf_index_le, measured_sound, lf_own, lf_no, lf_yes}
 use Rattle.grid.proofs.lf_group_idx_from_group_idx.Goals as goal
 

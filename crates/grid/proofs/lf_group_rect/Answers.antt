@@ -2,7 +2,8 @@
 use Rattle.std.proofs.Common.{◌∙◌}
 use Rattle.grid.specs.Groups.{rect_for, rect_or_refused}
 use Rattle.grid.proofs.Answers.{asked}
-use Rattle.grid.proofs.Answered.{handed, measured_ok}
+use Rattle.bits.proofs.Answered.{handed}
+use Rattle.grid.proofs.Answered.{measured_ok}
 use Rattle.grid.proofs.Lookups.{rect_own}
 use Rattle.grid.proofs.lf_group_rect.Goals as goal
 

@@ -1,7 +1,8 @@
 -- `sampled`: a size where the frame is accepted, whose level is then at most 4.
 use Rattle.std.proofs.Common.{◌∙◌, refl}
 use Rattle.grid.proofs.Accepted.{accepted}
-use Rattle.grid.proofs.Answered.{handed, measured_ok}
+use Rattle.bits.proofs.Answered.{handed}
+use Rattle.grid.proofs.Answered.{measured_ok}
 use Rattle.grid.proofs.Lookups.{sampled_own, sampled_yes}
 use Rattle.grid.proofs.sampled.Goals as goal
 

@@ -5,29 +5,24 @@ use lib.ListN.{length-set}
 use Rattle.order.proofs.Marks.{marked_none, marked_more, marked_all, too_large, twice}
 use Rattle.order.proofs.mark_all.Goals as goal
 
-pub loop-i-init : goal.loop-i-init
-loop-i-init c = (refl, marked_none _ _ _ c.requires.1)
-
-pub overflow_cast-k : goal.overflow_cast-k
-overflow_cast-k c = omega (arith, c.shared_slice_known-1.given c.loop-i.i)
+pub loop-entry-init : goal.loop-entry-init
+loop-entry-init c = (refl, marked_none _ _ _ c.requires.1)
 
 pub returns-then-n-k : goal.returns-then-n-k
-returns-then-n-k c = too_large _ _ c.requires.0 _ c.loop-i-test.true (omega arith)
+returns-then-n-k c = too_large _ _ c.requires.0 c.loop-entry.entry-index (omega (arith, c.requires.0)) (omega arith)
 
 pub returns-then-marks-k-ne0 : goal.returns-then-marks-k-ne0
 returns-then-marks-k-ne0 c =
-    let a = c.before.before.before.before.before.before in
-    twice _ _ a.requires.0 _ _ c.loop-i.invariant.1 c.loop-i-test.true
+    twice _ _ c.requires.0 _ c.loop-entry.entry-index c.loop-entry.invariant.1 (omega (arith, c.requires.0))
     c.if-n-k.false c.if-marks-k-ne0.true
 
-pub loop-i-preserved : goal.loop-i-preserved
-loop-i-preserved c =
-    let a = c.before.before.before.before.before.before in
-    let l = c.loop-i in (
+pub loop-entry-preserved : goal.loop-entry-preserved
+loop-entry-preserved c =
+    let l = c.loop-entry in (
       length-set l.marks _ 1 ∙ l.invariant.0,
-      marked_more _ _ a.requires.0 _ _ l.invariant.1 c.loop-i-test.true
+      marked_more _ _ c.requires.0 _ l.entry-index l.invariant.1 (omega (arith, c.requires.0))
           c.if-n-k.false c.if-marks-k-ne0.false,
     )
 
 pub returns : goal.returns
-returns c = marked_all _ _ c.requires.0 _ _ c.loop-i.invariant.1 c.loop-i-test.false
+returns c = marked_all _ _ c.requires.0 _ c.loop-entry.entry-index c.loop-entry.invariant.1 (omega (arith, c.requires.0))

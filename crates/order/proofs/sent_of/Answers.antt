@@ -1,6 +1,11 @@
 -- `sent_of`: the word that was looked up, under its own kind.
-use Rattle.order.proofs.Numbers.{sent_found}
+use Rattle.std.proofs.Common.{◌∙◌}
+use Rattle.bits.proofs.Answered.{handed}
+use Rattle.order.proofs.Numbers.{sent_found, sent_bad}
 use Rattle.order.proofs.sent_of.Goals as goal
 
+pub returns-in_err-word : goal.returns-in_err-word
+returns-in_err-word c = handed _ _ c.from_residual.ensures.1 ∙ sent_bad c.args.order.now _ _ _ c.in_err-word.ensures
+
 pub returns : goal.returns
-returns c = sent_found c.args.order.now _ _ _ c.look-e.ensures
+returns c = sent_found c.args.order.now _ _ _ c.in_ok-word.ensures

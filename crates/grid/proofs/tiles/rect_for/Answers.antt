@@ -1,6 +1,6 @@
 -- `rect_for`: the rectangle of a square that there is.
 use Rattle.std.proofs.Common.{◌∙◌}
-use Rattle.grid.proofs.Answered.{handed}
+use Rattle.bits.proofs.Answered.{handed}
 use Rattle.grid.proofs.Lookups.{there, rect_yes, rect_no}
 use Rattle.grid.proofs.tiles.rect_for.Goals as goal
 

@@ -1,6 +1,6 @@
 -- `touch_for`: the comparison with a square that there is.
 use Rattle.std.proofs.Common.{◌∙◌}
-use Rattle.grid.proofs.Answered.{handed}
+use Rattle.bits.proofs.Answered.{handed}
 use Rattle.grid.proofs.Lookups.{there, touch_yes, touch_no}
 use Rattle.grid.proofs.tiles.touch_for.Goals as goal
 
