@@ -5,27 +5,26 @@ use native.Mathlib.Nat.{mul-le-mul, div-le_self}
 use mathlib.Core.Path.{◌≡◌, sym, ◌∙◌}
 use mathlib.Core.Bool.{Bool, true, false, not, ◌&&◌}
 use lib.Dec.{ltb}
-use borrow.Author.Tests.{eq-eqb, ne_eqb, lt-ltb, le-ltb, ltb-true, not-true, not-false}
+use borrow.Author.Tests.{eq-eqb, ne_eqb, lt-ltb, not-true, not-false}
 use Rattle.bits.specs.declared.Refusal.{Refusal}
 use Rattle.bits.specs.Refusals.{none}
 use Rattle.grid.specs.declared.Frame.{Frame}
+use Rattle.std.specs.Prelude.{Ok, Err}
 use Rattle.grid.specs.declared.Grid.{Grid}
-use Rattle.grid.specs.Measured.{grid_of}
-use Rattle.grid.proofs.Accepted.{and_parts}
-use Rattle.order.specs.declared.SectionAnswer.{SectionAnswer}
+use Rattle.grid.specs.Measured.{unrefused, grid_of, grid_or_refused}
+use Rattle.grid.proofs.Answered.{measured_ok, own}
+use Rattle.order.specs.Numbers.{SectionAnswer}
 use Rattle.layout.specs.declared.Layout.{Layout}
-use Rattle.layout.specs.declared.LayoutAnswer.{LayoutAnswer}
-use Rattle.layout.specs.Layouts.{laid_out, nowhere, layout_of, number_in, group_in, has_in, not_in, section_in}
+use Rattle.layout.specs.Layouts.{laid_out, layout_of, layout_or_refused, number_in, group_in, has_in, not_in, section_in}
 
--- the layout of a frame, or none
-module _ (f : Frame) (g : Grid) (m : g ≡ grid_of f) where
-  pub layout_no : (l : Layout) → l ≡ nowhere → (g.refusal.number ≡ 0 → ⊥) → ◌≡◌ {A = LayoutAnswer} (record { layout = l; refusal = g.refusal }) (layout_of f)
-  unfolding layout_of
-  layout_no l e z = rw (e, ← m, ne_eqb g.refusal.number 0 z)
+-- the layout of a frame, or its refusal
+pub layout_own : (f : Frame) (r : Refusal) → Err r ≡ grid_or_refused (grid_of f) → Err r ≡ layout_or_refused (layout_of f)
+unfolding layout_of
+layout_own f r e = own f r _ e
 
-  pub layout_yes : g.refusal.number ≡ 0 → ◌≡◌ {A = LayoutAnswer} (record { layout = laid_out f g; refusal = g.refusal }) (layout_of f)
-  unfolding layout_of
-  layout_yes z = rw (← m, eq-eqb g.refusal.number 0 z)
+pub layout_told : (f : Frame) (g : Grid) → Ok g ≡ grid_or_refused (grid_of f) → Ok (laid_out f (unrefused g)) ≡ layout_or_refused (layout_of f)
+unfolding layout_of
+layout_told f g e = rw (← measured_ok f g e)
 
 -- nothing wraps
 pub index_small : (x y columns side : ℕ) → x < 4294967296 → y < 4294967296 → columns < 4294967296 → y / side * columns + x / side < 18446744073709551616
@@ -63,21 +62,8 @@ module _ (l : Layout) (x y pass : ℕ) (inside early all : Bool) (ei : inside �
   outside h r er = er ∙ rw (tests, not-true all h)
 
   module _ (h : not all ≡ false) where
-    pub within : (pass < l.passes) × (l.power < 32)
-    within =
-        let both = and_parts (ltb pass l.passes) (ltb l.power 32) (and_parts (ltb x l.width && ltb y l.height) (ltb pass l.passes && ltb l.power 32) (tests ∙ not-false all h)).1 in
-        (ltb-true pass l.passes both.0, ltb-true l.power 32 both.1)
-
     module _ (group : ℕ) (eg : group ≡ group_in l x y) where
-      pub no_group : l.groups ≤ group → (r : SectionAnswer) → r ≡ not_in → r ≡ section_in l x y pass
-      unfolding section_in has_in
-      no_group past r er = er ∙ rw (tests, not-false all h, ← eg, le-ltb group l.groups past)
-
       module _ (low : group < l.groups) (number : ℕ) (en : number ≡ number_in l pass group) where
-        pub no_number : l.sections ≤ number → (r : SectionAnswer) → r ≡ not_in → r ≡ section_in l x y pass
-        unfolding section_in has_in
-        no_number past r er = er ∙ rw (tests, not-false all h, ← eg, lt-ltb group l.groups low, ← en, le-ltb number l.sections past)
-
         pub found : number < l.sections → (acc : Refusal) → acc ≡ none → ◌≡◌ {A = SectionAnswer} (record { section = record { 0 = number }; refusal = acc }) (section_in l x y pass)
         unfolding section_in has_in
         found under acc e = rw (tests, not-false all h, ← eg, lt-ltb group l.groups low, ← en, lt-ltb number l.sections under, e)

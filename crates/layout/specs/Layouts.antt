@@ -1,16 +1,15 @@
 -- A frame's layout, and the section of a sample by it.
-use Rattle.std.specs.Prelude.{ℕ, ◌+◌, ◌*◌, ◌^◌, Bool, ◌&&◌, eqb, ltb}
-use Rattle.bits.specs.Refusals.{pick, none, refusal}
+use Rattle.std.specs.Prelude.{ℕ, ◌+◌, ◌*◌, ◌^◌, Bool, ◌&&◌, eqb, ltb, Result}
+use Rattle.bits.specs.Refusals.{pick, none, refusal, answered}
+use Rattle.bits.specs.declared.Refusal.{Refusal}
 use Rattle.grid.specs.declared.Frame.{Frame}
-use Rattle.grid.specs.declared.Grid.{Grid}
-use Rattle.grid.specs.Measured.{grid_of}
+use Rattle.grid.specs.Measured.{Measured, grid_of}
 use Rattle.grid.specs.Groups.{index_at}
-use Rattle.order.specs.declared.SectionAnswer.{SectionAnswer}
+use Rattle.order.specs.Numbers.{SectionAnswer}
 use Rattle.layout.specs.declared.Layout.{Layout}
-use Rattle.layout.specs.declared.LayoutAnswer.{LayoutAnswer}
 
 -- what a look-up needs of a frame and its grid; a group's side is 2 ^ (7 + `group_size_shift`)
-abbrev pub laid_out : Frame → Grid → Layout
+abbrev pub laid_out : Frame → Measured → Layout
 laid_out f g = record {
   width = g.width;
   height = g.height;
@@ -24,6 +23,15 @@ laid_out f g = record {
 
 abbrev pub nowhere : Layout
 nowhere = record { width = 0; height = 0; power = 0; columns = 0; groups = 0; lf_groups = 0; sections = 0; passes = 0 }
+
+-- a layout and a refusal
+pub record LayoutAnswer : Type 0 where
+  pub layout : Layout
+  pub refusal : Refusal
+
+-- as the function gives it: the layout, or why there is none
+abbrev pub layout_or_refused : LayoutAnswer → Result Layout Refusal
+layout_or_refused a = answered a.refusal a.layout
 
 -- 8, 9, 10 of the frame; beside a refusal all numbers are 0
 unfoldable pub layout_of : Frame → LayoutAnswer

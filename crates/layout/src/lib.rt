@@ -4,10 +4,15 @@
 
 ghost use Rattle.std.specs.Prelude.{◌≡◌, ◌^◌, ◌<◌};
 ghost use Rattle.grid.specs.Groups.{index_at};
-ghost use Rattle.layout.specs.Layouts.{nowhere, layout_of, number_in, not_in, section_in};
+ghost use Rattle.order.specs.Numbers.{section_or_refused};
+ghost use Rattle.layout.specs.Layouts.{layout_of, layout_or_refused, number_in, not_in, section_in};
+
+use bits::Refusal;
+use grid::Frame;
+use order::SectionNumber;
 
 // The colour sample size, the power of two that is a group's side, the groups in a row, the counts, and how many passes there are.
-#[derive(Clone, Copy)]
+#[derive(Clone, Copy, Debug, PartialEq, Eq)]
 pub struct Layout {
     pub width: u32,
     pub height: u32,
@@ -19,52 +24,21 @@ pub struct Layout {
     pub passes: u32,
 }
 
-// A frame's layout, or why there is none.
-#[derive(Clone, Copy)]
-pub struct LayoutAnswer {
-    pub layout: Layout,
-    pub refusal: bits::Refusal,
-}
-
-// What stands beside a refusal.
-fn nowhere() -> Layout
-    ensures { result ≡ nowhere }
-{
-    Layout {
-        width: 0,
-        height: 0,
-        power: 0,
-        columns: 0,
-        groups: 0,
-        lf_groups: 0,
-        sections: 0,
-        passes: 0,
-    }
-}
-
 // The layout of a frame: 8, 9, 10.
-pub fn layout_of(f: grid::Frame) -> LayoutAnswer
-    ensures { result ≡ layout_of f }
+pub fn layout_of(f: Frame) -> Result<Layout, Refusal>
+    ensures { result ≡ layout_or_refused (layout_of f) }
 {
-    let g = grid::measure(f);
-    let refusal = g.refusal;
-    if refusal.number != 0 {
-        let layout = nowhere();
-        return LayoutAnswer { layout, refusal };
-    }
-    LayoutAnswer {
-        layout: Layout {
-            width: g.width,
-            height: g.height,
-            power: 7 + f.group_size_shift,
-            columns: g.columns,
-            groups: g.groups,
-            lf_groups: g.lf_groups,
-            sections: g.sections,
-            passes: f.num_passes,
-        },
-        refusal,
-    }
+    let g = grid::measure(f)?;
+    Ok(Layout {
+        width: g.width,
+        height: g.height,
+        power: 7 + f.group_size_shift,
+        columns: g.columns,
+        groups: g.groups,
+        lf_groups: g.lf_groups,
+        sections: g.sections,
+        passes: f.num_passes,
+    })
 }
 
 // The group of a sample, exactly.
@@ -90,22 +64,20 @@ fn number_in(l: Layout, pass: u32, group: u64) -> u64
 }
 
 // The layout has no such sample, or no such pass.
-fn not_in() -> order::SectionAnswer
-    ensures { result ≡ not_in }
+fn not_in() -> Result<SectionNumber, Refusal>
+    ensures { result ≡ section_or_refused not_in }
 {
-    order::SectionAnswer {
-        section: order::SectionNumber(0),
-        refusal: bits::refused(14, 0),
-    }
+    Err(bits::refused(14, 0))
 }
 
 // A sample and a pass to the number of their section: 14 where the layout has none.
-pub fn section_in(l: Layout, x: u32, y: u32, pass: u32) -> order::SectionAnswer
-    ensures { result ≡ section_in l x y pass }
+#[tactic(auto, unfolding(crate::specs::Layouts::section_in, crate::specs::Layouts::has_in))]
+pub fn section_in(l: Layout, x: u32, y: u32, pass: u32) -> Result<SectionNumber, Refusal>
+    ensures { result ≡ section_or_refused (section_in l x y pass) }
 {
-    let inside = bits::both(x < l.width, y < l.height);
-    let early = bits::both(pass < l.passes, l.power < 32);
-    if !bits::both(inside, early) {
+    let inside = x < l.width && y < l.height;
+    let early = pass < l.passes && l.power < 32;
+    if !(inside && early) {
         return not_in();
     }
     let group = group_in(l, x, y);
@@ -116,9 +88,5 @@ pub fn section_in(l: Layout, x: u32, y: u32, pass: u32) -> order::SectionAnswer
     if (l.sections as u64) <= number {
         return not_in();
     }
-    let section = number as u32;
-    order::SectionAnswer {
-        section: order::SectionNumber(section),
-        refusal: bits::accepted(),
-    }
+    Ok(SectionNumber(number as u32))
 }

@@ -7,14 +7,13 @@ use lib.Dec.{eqb}
 use borrow.Author.Tests.{eqb-true}
 use Rattle.bits.specs.Refusals.{pick}
 use Rattle.grid.specs.declared.Frame.{Frame}
-use Rattle.grid.specs.declared.Grid.{Grid}
 use Rattle.grid.specs.Sizes.{color_width, color_height, group_side, lf_side, count, sections_of}
-use Rattle.grid.specs.Measured.{laid, grid_of}
+use Rattle.grid.specs.Measured.{Measured, laid, grid_of}
 use Rattle.grid.specs.Groups.{index_at}
 use Rattle.grid.proofs.Accepted.{Accepted, accepted, and_parts}
 use Rattle.grid.proofs.Cover.{number_lt}
 
-pub record Counts (f : Frame) (g : Grid) : Type 0 where
+pub record Counts (f : Frame) (g : Measured) : Type 0 where
   pub some_group : 0 < g.groups
   pub some_lf : 0 < g.lf_groups
   pub some_pass : 0 < f.num_passes
@@ -72,7 +71,7 @@ laid_counts f a =
       sample = λ x y hx hy. number_lt (color_width f) (color_height f) (group_side f) (omega (arith, a.side)) x y hx hy;
     }
 
-pub counts : (f : Frame) (g : Grid) → g ≡ grid_of f → g.refusal.number ≡ 0 → Counts f g
+pub counts : (f : Frame) (g : Measured) → g ≡ grid_of f → g.refusal.number ≡ 0 → Counts f g
 counts f g m z =
     let a = accepted f (rw m at z) in
     rw (m, a.grid) (laid_counts f a)

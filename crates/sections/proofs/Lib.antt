@@ -1,3 +1,4 @@
 pub mod Counts
 pub mod OfKinds
 pub mod Asking
+pub mod Answered

@@ -3,28 +3,26 @@ use Prim.Native.Nat.{ℕ, ◌+◌, ◌-◌, ◌*◌, ◌/◌, ◌%◌, ◌≤◌
 use native.Mathlib.Omega.{arith}
 use native.Mathlib.Nat.{mul_comm}
 use lib.Arith.{digits_lt}
-use mathlib.Core.Path.{◌≡◌, refl, sym, ◌∙◌}
+use mathlib.Core.Path.{◌≡◌, refl, ◌∙◌}
 use mathlib.Core.Bool.{Bool, true, ◌&&◌, ◌||◌}
 use lib.Dec.{eqb, ltb}
 use borrow.Author.Tests.{eq-eqb, ne_eqb, eqb-true, eqb-false, le-leb, lt-leb, ltb-true}
 use Rattle.bits.specs.declared.Refusal.{Refusal}
 use Rattle.grid.specs.declared.Frame.{Frame}
-use Rattle.grid.specs.declared.Grid.{Grid}
-use Rattle.grid.specs.Measured.{grid_of}
+use Rattle.grid.specs.Measured.{Measured, grid_of}
 use Rattle.grid.specs.Groups.{judge}
 use Rattle.grid.proofs.Accepted.{and_parts}
-use Rattle.grid.proofs.Answers.{judged}
 use Rattle.order.specs.declared.SectionNumber.{SectionNumber}
-use Rattle.order.specs.declared.SectionAnswer.{SectionAnswer}
+use Rattle.order.specs.Numbers.{SectionAnswer}
 use Rattle.order.proofs.Entries.{split}
 use Rattle.sections.specs.declared.TocGroupKind.{TocGroupKind}
 use Rattle.sections.specs.declared.TocGroupKind.TheVariants.{All, LfGlobal, LfGroup, HfGlobal, GroupPass}
 use Rattle.sections.specs.declared.KindNumbers.{KindNumbers}
 use Rattle.sections.specs.Kinds.{numbers_of, has_kind, section_number, kind_at, section_answer, section_of_kind, KindTold, kind_of}
-use Rattle.sections.proofs.Counts.{Counts, counts}
+use Rattle.sections.proofs.Counts.{Counts}
 
 -- whether the frame has a kind, by the kind's number
-module _ (g : Grid) (passes : ℕ) (k : KindNumbers) where
+module _ (g : Measured) (passes : ℕ) (k : KindNumbers) where
   pub has_one : g.sections ≡ 1 → eqb k.kind 0 ≡ has_kind g passes k
   unfolding has_kind
   has_one h = rw (eq-eqb g.sections 1 h)
@@ -43,7 +41,7 @@ module _ (g : Grid) (passes : ℕ) (k : KindNumbers) where
     has_global e2 e4 b e = rw (ne_eqb g.sections 1 h, ne_eqb k.kind 2 e2, ne_eqb k.kind 4 e4) e
 
 -- the section number, by the kind's number
-module _ (g : Grid) (k : KindNumbers) where
+module _ (g : Measured) (k : KindNumbers) where
   pub number_lf : k.kind ≡ 2 → 1 + k.group_idx ≡ section_number g k
   unfolding section_number
   number_lf e = rw (eq-eqb k.kind 2 e)
@@ -63,7 +61,7 @@ module _ (g : Grid) (k : KindNumbers) where
       number_first e4 = rw (ne_eqb k.kind 2 e2, ne_eqb k.kind 3 e3, ne_eqb k.kind 4 e4)
 
 -- the kind of a section, by its number
-module _ (g : Grid) (i : ℕ) where
+module _ (g : Measured) (i : ℕ) where
   pub at_one : g.sections ≡ 1 → All ≡ kind_at g i
   unfolding kind_at
   at_one h = rw (eq-eqb g.sections 1 h)
@@ -100,28 +98,20 @@ unfolding section_answer
 section_no r v e = rw (ne_eqb r.number 0 e)
 
 -- what the two look-ups answer
-module _ (f : Frame) (g : Grid) (m : g ≡ grid_of f) (r : Refusal) where
+module _ (f : Frame) (g : Measured) (m : g ≡ grid_of f) (r : Refusal) where
   module _ (kind : TocGroupKind) (k : KindNumbers) (ek : k ≡ numbers_of kind) (known : Bool) (en : known ≡ has_kind g f.num_passes k) (er : r ≡ judge g known) where
-    pub of_kind_no : (r.number ≡ 0 → ⊥) → ◌≡◌ {A = SectionAnswer} (record { section = record { 0 = 0 }; refusal = r }) (section_of_kind f kind)
-    unfolding section_of_kind
-    of_kind_no h = rw (← m, ← ek, ← en, ← er) (section_no r _ h)
-
     pub of_kind_yes : (n : ℕ) → r.number ≡ 0 → n ≡ section_number g k
         → ◌≡◌ {A = SectionAnswer} (record { section = record { 0 = n }; refusal = r }) (section_of_kind f kind)
     unfolding section_of_kind
     of_kind_yes n h e = rw (← m, ← ek, ← en, ← er, ← e) (section_yes r n h)
 
   module _ (section : SectionNumber) (er : r ≡ judge g (ltb section.0 g.sections)) where
-    pub kind_no : (r.number ≡ 0 → ⊥) → ◌≡◌ {A = KindTold} (record { numbers = numbers_of All; refusal = r }) (kind_of f section)
-    unfolding kind_of
-    kind_no h = rw (← m, ← er, ne_eqb r.number 0 h)
-
     pub kind_yes : (k : TocGroupKind) → r.number ≡ 0 → k ≡ kind_at g section.0 → ◌≡◌ {A = KindTold} (record { numbers = numbers_of k; refusal = r }) (kind_of f section)
     unfolding kind_of
     kind_yes k h e = rw (← m, ← er, eq-eqb r.number 0 h, ← e)
 
 -- a kind that the frame has is numbered below the count
-module _ (f : Frame) (g : Grid) (n : Counts f g) (k : KindNumbers) (t : has_kind g f.num_passes k ≡ true) where
+module _ (f : Frame) (g : Measured) (n : Counts f g) (k : KindNumbers) (t : has_kind g f.num_passes k ≡ true) where
   first_below : (k.kind ≡ 2 → ⊥) → (k.kind ≡ 3 → ⊥) → (k.kind ≡ 4 → ⊥) → section_number g k < g.sections
   first_below e2 e3 e4 = rw (← number_first g k e2 e3 e4) n.some_section
 
@@ -154,16 +144,3 @@ module _ (f : Frame) (g : Grid) (n : Counts f g) (k : KindNumbers) (t : has_kind
       split (eqb k.kind 4)
       (λ e''. pass_below h e2 e3 (eqb-true k.kind 4 e''))
       (λ e''. first_below e2 e3 (eqb-false k.kind 4 e'')))))
-
--- nothing was refused: what the frame's counts are
-pub allowed : (f : Frame) (g : Grid) → g ≡ grid_of f → (known : Bool) (r : Refusal) → r ≡ judge g known → r.number ≡ 0 → (Counts f g) × (known ≡ true)
-allowed f g m known r er z =
-    let ok = judged g known (rw er at z) in
-    (counts f g m ok.0, ok.1)
-
--- so it fits
-pub number_fits : (f : Frame) (g : Grid) → g ≡ grid_of f → (k : KindNumbers) (known : Bool) → known ≡ has_kind g f.num_passes k → (r : Refusal) → r ≡ judge g known
-    → r.number ≡ 0 → section_number g k < 65536
-number_fits f g m k known en r er z =
-    let ok = allowed f g m known r er z in
-    omega (arith, number_below f g ok.0 k (sym en ∙ ok.1), ok.0.small)

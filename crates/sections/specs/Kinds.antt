@@ -1,17 +1,15 @@
 -- The kinds of section: one group and one pass give a single All; otherwise LfGlobal, the LF groups, HfGlobal, then for each pass its groups.
-use Rattle.std.specs.Prelude.{ℕ, ◌+◌, ◌-◌, ◌*◌, ◌/◌, ◌%◌, Bool, ◌&&◌, ◌||◌, eqb, leb, ltb}
+use Rattle.std.specs.Prelude.{ℕ, ◌+◌, ◌-◌, ◌*◌, ◌/◌, ◌%◌, Bool, ◌&&◌, ◌||◌, eqb, leb, ltb, Result, Ok, Err}
 use Rattle.bits.specs.declared.Refusal.{Refusal}
-use Rattle.bits.specs.Refusals.{pick}
+use Rattle.bits.specs.Refusals.{pick, answered}
 use Rattle.grid.specs.declared.Frame.{Frame}
-use Rattle.grid.specs.declared.Grid.{Grid}
-use Rattle.grid.specs.Measured.{grid_of}
+use Rattle.grid.specs.Measured.{Measured, grid_of}
 use Rattle.grid.specs.Groups.{judge}
 use Rattle.order.specs.declared.SectionNumber.{SectionNumber}
-use Rattle.order.specs.declared.SectionAnswer.{SectionAnswer}
+use Rattle.order.specs.Numbers.{SectionAnswer}
 use Rattle.sections.specs.declared.TocGroupKind.{TocGroupKind}
 use Rattle.sections.specs.declared.TocGroupKind.TheVariants.{All, LfGlobal, LfGroup, HfGlobal, GroupPass}
 use Rattle.sections.specs.declared.KindNumbers.{KindNumbers}
-use Rattle.sections.specs.declared.KindAnswer.{KindAnswer}
 
 -- the number of each kind, and its values: a pass and a group, or an LF group
 abbrev pub numbers_of : TocGroupKind → KindNumbers
@@ -23,7 +21,7 @@ numbers_of (GroupPass p i) = record { kind = 4; pass_idx = p; group_idx = i }
 
 -- whether the frame has a section of the kind: a frame of one has All alone; another has no All, LF groups below their count, and passes and groups
 -- below theirs
-unfoldable pub has_kind : Grid → ℕ → KindNumbers → Bool
+unfoldable pub has_kind : Measured → ℕ → KindNumbers → Bool
 has_kind g passes k =
     pick (eqb g.sections 1)
     (eqb k.kind 0)
@@ -34,7 +32,7 @@ has_kind g passes k =
     (eqb k.kind 1 || eqb k.kind 3)))
 
 -- its section number: All and LfGlobal are section 0
-unfoldable pub section_number : Grid → KindNumbers → ℕ
+unfoldable pub section_number : Measured → KindNumbers → ℕ
 section_number g k =
     pick (eqb k.kind 2)
     (1 + k.group_idx)
@@ -45,7 +43,7 @@ section_number g k =
     0))
 
 -- the kind of section i
-unfoldable pub kind_at : Grid → ℕ → TocGroupKind
+unfoldable pub kind_at : Measured → ℕ → TocGroupKind
 kind_at g i =
     pick (eqb g.sections 1)
     All
@@ -66,6 +64,11 @@ unfoldable pub section_of_kind : Frame → TocGroupKind → SectionAnswer
 section_of_kind f kind =
     section_answer (judge (grid_of f) (has_kind (grid_of f) f.num_passes (numbers_of kind))) (section_number (grid_of f) (numbers_of kind))
 
+-- a section's kind and a refusal, beside which it is All
+pub record KindAnswer : Type 0 where
+  pub kind : TocGroupKind
+  pub refusal : Refusal
+
 -- what an answer says, its kind by number and values
 pub record KindTold : Type 0 where
   pub numbers : KindNumbers
@@ -73,6 +76,14 @@ pub record KindTold : Type 0 where
 
 abbrev pub kind_told : KindAnswer → KindTold
 kind_told a = record { numbers = numbers_of a.kind; refusal = a.refusal }
+
+-- as the function gives it: the kind's number and values, or why there is none
+abbrev pub kind_or_refused : KindTold → Result KindNumbers Refusal
+kind_or_refused t = answered t.refusal t.numbers
+
+abbrev pub numbers_in : Result TocGroupKind Refusal → Result KindNumbers Refusal
+numbers_in (Ok kind) = Ok (numbers_of kind)
+numbers_in (Err r) = Err r
 
 -- the same the other way; a kind beside a refusal is All, number 0
 unfoldable pub kind_of : Frame → SectionNumber → KindTold

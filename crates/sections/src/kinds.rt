@@ -2,12 +2,15 @@
 // refusal 14. No table is needed, and each takes constant time.
 ghost use Rattle.std.specs.Prelude.{◌≡◌, ◌*◌, ◌%◌, ◌^◌, ◌≤◌, ◌<◌};
 ghost use Rattle.grid.specs.Groups.{index_at};
-ghost use Rattle.sections.specs.Kinds.{numbers_of, has_kind, section_number, kind_at, section_of_kind, kind_told, kind_of};
+ghost use Rattle.grid.specs.Measured.{unrefused};
+ghost use Rattle.order.specs.Numbers.{section_or_refused};
+ghost use Rattle.sections.specs.Kinds.{numbers_of, has_kind, section_number, kind_at, section_of_kind, numbers_in, kind_of, kind_or_refused};
 ghost use Rattle.sections.specs.Lookups.{sample_kind, has_sample, section_of_sample};
 
-use crate::{KindAnswer, KindNumbers, TocGroupKind};
-use grid::{Frame, Grid, judge};
-use order::{SectionAnswer, SectionNumber};
+use crate::{KindNumbers, TocGroupKind};
+use bits::Refusal;
+use grid::{Frame, Grid, found, measure};
+use order::SectionNumber;
 
 // A kind's number and values.
 pub fn kind_numbers(kind: TocGroupKind) -> KindNumbers
@@ -46,63 +49,55 @@ pub fn kind_numbers(kind: TocGroupKind) -> KindNumbers
 }
 
 // Whether the frame has a section of the kind.
-fn has_kind(g: Grid, passes: u32, k: KindNumbers) -> bool
-    ensures { result ≡ has_kind g passes k }
+#[tactic(auto, unfolding(crate::specs::Kinds::has_kind))]
+fn has_kind(g: Grid, passes: u32, kind: TocGroupKind) -> bool
+    ensures { result ≡ has_kind (unrefused g) passes (numbers_of kind) }
 {
     if g.sections == 1 {
-        return k.kind == 0;
+        return matches!(kind, TocGroupKind::All);
     }
-    if k.kind == 2 {
-        return k.group_idx < g.lf_groups;
+    match kind {
+        TocGroupKind::All => false,
+        TocGroupKind::LfGlobal | TocGroupKind::HfGlobal => true,
+        TocGroupKind::LfGroup(i) => i < g.lf_groups,
+        TocGroupKind::GroupPass {
+            pass_idx,
+            group_idx,
+        } => pass_idx < passes && group_idx < g.groups,
     }
-    if k.kind == 4 {
-        return bits::both(k.pass_idx < passes, k.group_idx < g.groups);
-    }
-    bits::either(k.kind == 1, k.kind == 3)
 }
 
 // The section number of a kind that the frame has.
-fn section_number(g: Grid, k: KindNumbers) -> u32
-    requires { section_number g k < 65536 }
-    ensures { result ≡ section_number g k }
+#[tactic(auto, unfolding(crate::specs::Kinds::section_number))]
+fn section_number(g: Grid, kind: TocGroupKind) -> u32
+    requires { section_number (unrefused g) (numbers_of kind) < 65536 }
+    ensures { result ≡ section_number (unrefused g) (numbers_of kind) }
 {
-    if k.kind == 2 {
-        return 1 + k.group_idx;
+    match kind {
+        TocGroupKind::All | TocGroupKind::LfGlobal => 0,
+        TocGroupKind::LfGroup(i) => 1 + i,
+        TocGroupKind::HfGlobal => 1 + g.lf_groups,
+        TocGroupKind::GroupPass {
+            pass_idx,
+            group_idx,
+        } => 1 + g.lf_groups + 1 + pass_idx * g.groups + group_idx,
     }
-    if k.kind == 3 {
-        return 1 + g.lf_groups;
-    }
-    if k.kind == 4 {
-        return 1 + g.lf_groups + 1 + k.pass_idx * g.groups + k.group_idx;
-    }
-    0
 }
 
 // A kind to its section number: 8, 9, 10, then 14 where the frame has no such section.
-pub fn section_of_kind(f: Frame, kind: TocGroupKind) -> SectionAnswer
-    ensures { result ≡ section_of_kind f kind }
+pub fn section_of_kind(f: Frame, kind: TocGroupKind) -> Result<SectionNumber, Refusal>
+    ensures { result ≡ section_or_refused (section_of_kind f kind) }
 {
-    let g = grid::measure(f);
-    let k = kind_numbers(kind);
-    let known = has_kind(g, f.num_passes, k);
-    let refusal = judge(g, known);
-    if refusal.number != 0 {
-        return SectionAnswer {
-            section: SectionNumber(0),
-            refusal,
-        };
-    }
-    let section = section_number(g, k);
-    SectionAnswer {
-        section: SectionNumber(section),
-        refusal,
-    }
+    let g = measure(f)?;
+    found(has_kind(g, f.num_passes, kind))?;
+    Ok(SectionNumber(section_number(g, kind)))
 }
 
 // The kind of a section of an accepted frame.
+#[tactic(auto, unfolding(crate::specs::Kinds::kind_at))]
 fn kind_at(g: Grid, i: u32) -> TocGroupKind
     requires { 0 < g.groups }
-    ensures { result ≡ kind_at g i }
+    ensures { result ≡ kind_at (unrefused g) i }
 {
     if g.sections == 1 {
         return TocGroupKind::All;
@@ -125,35 +120,30 @@ fn kind_at(g: Grid, i: u32) -> TocGroupKind
 }
 
 // A section number to its kind: 8, 9, 10, then 14 where the frame has no such section.
-pub fn kind_of(f: Frame, section: SectionNumber) -> KindAnswer
-    ensures { kind_told result ≡ kind_of f section }
+pub fn kind_of(f: Frame, section: SectionNumber) -> Result<TocGroupKind, Refusal>
+    ensures { numbers_in result ≡ kind_or_refused (kind_of f section) }
 {
-    let g = grid::measure(f);
+    let g = measure(f)?;
     let i = section.0;
-    let refusal = judge(g, i < g.sections);
-    if refusal.number != 0 {
-        return KindAnswer {
-            kind: TocGroupKind::All,
-            refusal,
-        };
-    }
-    let kind = kind_at(g, i);
-    KindAnswer { kind, refusal }
+    found(i < g.sections)?;
+    Ok(kind_at(g, i))
 }
 
 // Whether the sample lies in the colour sample size, and the frame has the pass.
+#[tactic(auto, unfolding(crate::specs::Lookups::has_sample))]
 fn has_sample(g: Grid, passes: u32, x: u32, y: u32, pass: u32) -> bool
-    ensures { result ≡ has_sample g passes x y pass }
+    ensures { result ≡ has_sample (unrefused g) passes x y pass }
 {
-    let inside = bits::both(x < g.width, y < g.height);
-    bits::both(inside, pass < passes)
+    let inside = x < g.width && y < g.height;
+    inside && pass < passes
 }
 
 // The kind of the section that holds a sample in a pass. The side is written as the power of two that it is, so that dividing by it is a
 // shift.
+#[tactic(auto, unfolding(crate::specs::Lookups::sample_kind))]
 fn sample_kind(g: Grid, shift: u32, x: u32, y: u32, pass: u32) -> TocGroupKind
     requires { (shift ≤ 3) × (128 * 2 ^ shift % 4294967296 ≡ g.side) × (0 < g.side) × (index_at g.columns g.side x y < 65536) }
-    ensures { result ≡ sample_kind g x y pass }
+    ensures { result ≡ sample_kind (unrefused g) x y pass }
 {
     if g.sections == 1 {
         return TocGroupKind::All;
@@ -167,22 +157,11 @@ fn sample_kind(g: Grid, shift: u32, x: u32, y: u32, pass: u32) -> TocGroupKind
 }
 
 // A sample and a pass to the number of their section: 8, 9, 10, then 14.
-pub fn section_of_sample(f: Frame, x: u32, y: u32, pass: u32) -> SectionAnswer
-    ensures { result ≡ section_of_sample f x y pass }
+pub fn section_of_sample(f: Frame, x: u32, y: u32, pass: u32) -> Result<SectionNumber, Refusal>
+    ensures { result ≡ section_or_refused (section_of_sample f x y pass) }
 {
-    let g = grid::measure(f);
-    let known = has_sample(g, f.num_passes, x, y, pass);
-    let refusal = judge(g, known);
-    if refusal.number != 0 {
-        return SectionAnswer {
-            section: SectionNumber(0),
-            refusal,
-        };
-    }
-    let k = kind_numbers(sample_kind(g, f.group_size_shift, x, y, pass));
-    let section = section_number(g, k);
-    SectionAnswer {
-        section: SectionNumber(section),
-        refusal,
-    }
+    let g = measure(f)?;
+    found(has_sample(g, f.num_passes, x, y, pass))?;
+    let kind = sample_kind(g, f.group_size_shift, x, y, pass);
+    Ok(SectionNumber(section_number(g, kind)))
 }

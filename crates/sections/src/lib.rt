@@ -8,7 +8,7 @@ pub use kinds::{kind_numbers, kind_of, section_of_kind, section_of_sample};
 pub use lookups::{section_at, section_of_sent, sent_of_section};
 
 // The kind of a section.
-#[derive(Clone, Copy)]
+#[derive(Clone, Copy, Debug, PartialEq, Eq)]
 pub enum TocGroupKind {
     All,
     LfGlobal,
@@ -18,24 +18,16 @@ pub enum TocGroupKind {
 }
 
 // A kind as numbers: All 0, LfGlobal 1, LfGroup 2, HfGlobal 3, GroupPass 4, with its pass and its group (or LF group), else 0.
-#[derive(Clone, Copy)]
+#[derive(Clone, Copy, Debug, PartialEq, Eq)]
 pub struct KindNumbers {
     pub kind: u32,
     pub pass_idx: u32,
     pub group_idx: u32,
 }
 
-// A section's kind, or why there is none (beside a refusal, All).
-#[derive(Clone, Copy)]
-pub struct KindAnswer {
-    pub kind: TocGroupKind,
-    pub refusal: bits::Refusal,
-}
-
-// Where a section's data begins and how many bytes it has, or why that isn't known.
-#[derive(Clone, Copy)]
+// Where a section's data begins, and how many bytes it has.
+#[derive(Clone, Copy, Debug, PartialEq, Eq)]
 pub struct SectionPlace {
     pub offset: u64,
     pub size: u32,
-    pub refusal: bits::Refusal,
 }

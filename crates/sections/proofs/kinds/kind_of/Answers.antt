@@ -1,12 +1,16 @@
 -- `kind_of`: the kind of a section that the frame has.
-use Rattle.sections.proofs.OfKinds.{kind_no, kind_yes, allowed}
+use Rattle.bits.proofs.Answered.{handed}
+use Rattle.sections.proofs.Answered.{kind_own, kind_none, kind_found, measured_counts}
 use Rattle.sections.proofs.kinds.kind_of.Goals as goal
 
-pub returns-then-refusal-ne0 : goal.returns-then-refusal-ne0
-returns-then-refusal-ne0 c = kind_no c.args.f _ c.measure-g.ensures _ c.args.section c.judge-refusal.ensures c.if-refusal-ne0.true
+pub returns-in_err-g : goal.returns-in_err-g
+returns-in_err-g c = rw (handed _ _ c.from_residual.ensures.1) (kind_own c.args.f _ c.in_err-g.ensures c.args.section)
 
-pub kind_at-kind-requires : goal.kind_at-kind-requires
-kind_at-kind-requires c = (allowed c.args.f _ c.measure-g.ensures _ _ c.judge-refusal.ensures c.if-refusal-ne0.false).0.some_group
+pub returns-in_err-found : goal.returns-in_err-found
+returns-in_err-found c = rw (handed _ _ c.from_residual-in_err-found.ensures.1) (kind_none c.args.f _ c.in_ok-g.ensures c.args.section _ c.in_err-found.ensures)
+
+pub kind_at-requires : goal.kind_at-requires
+kind_at-requires c = (measured_counts c.args.f _ c.in_ok-g.ensures).some_group
 
 pub returns : goal.returns
-returns c = kind_yes c.args.f _ c.measure-g.ensures _ c.args.section c.judge-refusal.ensures _ c.if-refusal-ne0.false c.kind_at-kind.ensures
+returns c = kind_found c.args.f _ c.in_ok-g.ensures c.args.section _ c.in_ok-found.ensures _ c.kind_at.ensures
