@@ -34,10 +34,13 @@ alone m g e q = rw (← q, ← e)
 
 -- what a check's answer says of its frame
 module _ (f : Frame) where
+  pub measured_from : (g : Grid) → (grid_of f).refusal.number ≡ 0 → grid_in (grid_of f) ≡ g → unrefused g ≡ grid_of f
+  measured_from g z q = sym (alone (grid_of f) g (refused_none f z) q)
+
   pub measured_ok : (g : Grid) → Ok g ≡ grid_or_refused (grid_of f) → unrefused g ≡ grid_of f
   measured_ok g e =
       let w = answered_ok (grid_of f).refusal (grid_in (grid_of f)) g (sym e) in
-      sym (alone (grid_of f) g (refused_none f w.0) w.1)
+      measured_from g w.0 w.1
 
   pub measured_err : (r : Refusal) → Err r ≡ grid_or_refused (grid_of f) → ((grid_of f).refusal.number ≡ 0 → ⊥) × ((grid_of f).refusal ≡ r)
   measured_err r e = answered_err (grid_of f).refusal r (grid_in (grid_of f)) (sym e)
@@ -76,6 +79,11 @@ module _ {A : Type 0} (g : Grid) (a : A) where
   unfolding judge
   known_no true r e = cc
   known_no false r e = cc
+
+  pub known_same : (known : Bool) → pick known (Ok a) (Err (refusal 14 0)) ≡ answered (judge (unrefused g) known) a
+  unfolding judge
+  known_same true = refl
+  known_same false = refl
 
 pub known_true : (known : Bool) (u : Unit {0}) → Ok u ≡ pick known (Ok tt) (Err (refusal 14 0)) → known ≡ true
 known_true true u e = refl
