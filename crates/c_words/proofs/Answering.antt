@@ -1,40 +1,45 @@
--- What the functions that end a C function come to: refusal 3 in its turn, and a record's words.
+-- What a function hands out of an answer is what the record with its refusal comes to.
 use Prim.Native.Nat.{ℕ}
-use mathlib.Core.Path.{◌≡◌, ◌∙◌, ap}
-use mathlib.Core.Bool.{Bool, true, false, not, ◌&&◌, ◌||◌}
+use mathlib.Core.Path.{◌≡◌, refl, ◌∙◌}
+use mathlib.Core.Bool.{Bool, true, false}
 use mathlib.Core.List.{List}
-use lib.Dec.{leb, eqb}
+use lib.Dec.{eqb, ltb}
+use lib.ListN.{length}
 use lib.Seq.{sets}
-use borrow.Author.Tests.{eq-eqb, ne_eqb, not-true, not-false}
+use borrow.Author.Tests.{eqb-true, eqb-false}
+use Rattle.std.specs.Prelude.{Ok, Err}
 use Rattle.bits.specs.declared.Refusal.{Refusal}
-use Rattle.bits.specs.Refusals.{refusal}
-use Rattle.c_words.specs.Status.{status_of, is_early, roomed}
-use Rattle.c_words.specs.Answers.{Answer, refusal_for, Given}
+use Rattle.bits.specs.Refusals.{pick, none, answered}
+use Rattle.bits.proofs.Answered.{answered_yes, answered_no}
+use Rattle.order.proofs.Entries.{split}
+use Rattle.c_words.specs.Status.{is_early, roomed}
+use Rattle.c_words.specs.Answers.{answer, Given, words_of, written_in, Handed}
+use Rattle.c_words.proofs.Plain.{Plain}
 
-pub early_by : (n : ℕ) (a b c : Bool) → a ≡ (leb 1 n && leb n 2) → b ≡ (leb 8 n && leb n 10) → c ≡ (a || b) → c ≡ is_early n
-early_by n a b c ea eb ec = ec ∙ rw (ea, eb)
+-- words beside none go in where there is room; beside a refusal nothing does
+put_in : (b : Bool) (l before : List ℕ) → written_in b (Ok l) before ≡ pick (eqb (roomed none b).number 0) (sets before 0 l) before
+put_in true l before = refl
+put_in false l before = refl
 
-module _ (r : Refusal) (short : Bool) where
-  pub enough_room : not short ≡ true → r ≡ roomed r short
-  enough_room h = rw (not-true short h)
+kept_in : (b : Bool) (r : Refusal) (before : List ℕ) → written_in b (Err r) before ≡ before
+kept_in true r before = refl
+kept_in false r before = refl
 
-  module _ (h : not short ≡ false) (early : Bool) (ee : early ≡ is_early r.number) where
-    is : (short && not (is_early r.number)) ≡ not early
-    is = rw (not-false short h, ← ee)
+refused_by_room : (b early : Bool) (r : Refusal) → is_early r.number ≡ early → eqb r.number 0 ≡ false → eqb (roomed r b).number 0 ≡ false
+refused_by_room false early r e h = h
+refused_by_room true true r e h = rw e h
+refused_by_room true false r e h = rw e
 
-    pub as_it_was : early ≡ true → r ≡ roomed r short
-    as_it_was e = rw (is, e)
-
-    pub no_room_lem : early ≡ false → (a : Refusal) → a ≡ refusal 3 0 → a ≡ roomed r short
-    no_room_lem e a ea = ea ∙ rw (is, e)
-
-module _ (a : Answer) (before : List ℕ) (r : Refusal) (er : r ≡ refusal_for a before) where
-  pub given_refused : (r.number ≡ 0 → ⊥) → (word : ℕ) → word ≡ status_of r → Given a before word before
-  given_refused h word ew =
-      let no : eqb (refusal_for a before).number 0 ≡ false = rw (← er) (ne_eqb r.number 0 h) in
-      record { status = ew ∙ ap status_of er; words = rw no }
-
-  pub given_words : r.number ≡ 0 → (after : List ℕ) → after ≡ sets before 0 a.words → (word : ℕ) → word ≡ status_of r → Given a before word after
-  given_words h after ea word ew =
-      let yes : eqb (refusal_for a before).number 0 ≡ true = rw (← er) (eq-eqb r.number 0 h) in
-      record { status = ew ∙ ap status_of er; words = ea ∙ rw yes }
+pub handed_given : {A : Type 0} (r : Refusal) (a : A) (words : A → List ℕ) (l : List ℕ) {before after : List ℕ} {word : ℕ} → Plain r → (r.number ≡ 0 → words a ≡ l)
+    → Handed (length l) (words_of words (answered r a)) before word after → Given (answer r l) before word after
+handed_given r a words l {before} {after} {word} plain same h =
+    let short : Bool = ltb (length before) (length l) in
+    split (eqb r.number 0)
+    (λ t.
+    let z : r.number ≡ 0 = eqb-true r.number 0 t in
+    let g : Handed (length l) (Ok l) before word after = rw (answered_yes r a z, same z) at h in
+    record { status = rw (plain z) g.status; words = rw (plain z) (g.words ∙ put_in short l before) })
+    (λ t.
+    let g : Handed (length l) (Err r) before word after = rw (answered_no r a (eqb-false r.number 0 t)) at h in
+    let no : eqb (roomed r short).number 0 ≡ false = refused_by_room short (is_early r.number) r refl t in
+    record { status = g.status; words = g.words ∙ kept_in short r before ∙ rw no })

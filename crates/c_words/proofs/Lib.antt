@@ -1,6 +1,6 @@
 -- Laws that several proofs cite.
+pub mod Plain
 pub mod Answering
 pub mod Laying
-pub mod Wording
 pub mod Naming
 pub mod Recording

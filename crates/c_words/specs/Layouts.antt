@@ -1,10 +1,9 @@
 -- A layout as words, and back.
 use Rattle.std.specs.Prelude.{ℕ, ◌%◌, List, [], ◌∷◌, ltb, length, get_or}
 use Rattle.bits.specs.Refusals.{pick, refusal}
-use Rattle.order.specs.declared.SectionAnswer.{SectionAnswer}
+use Rattle.order.specs.Numbers.{SectionAnswer}
 use Rattle.layout.specs.declared.Layout.{Layout}
-use Rattle.layout.specs.declared.LayoutAnswer.{LayoutAnswer}
-use Rattle.layout.specs.Layouts.{section_in}
+use Rattle.layout.specs.Layouts.{LayoutAnswer, section_in}
 use Rattle.c_words.specs.Answers.{Answer, answer}
 
 -- width, height, power, columns, groups, LF groups, sections, passes

@@ -1,7 +1,7 @@
 // What every C function here ends with: the status word, and a record's words handed out where nothing is refused.
-ghost use Rattle.std.specs.Prelude.{◌≡◌};
+ghost use Rattle.std.specs.Prelude.{◌≡◌, Ok, length, ltb};
 ghost use Rattle.c_words.specs.Status.{status_of, is_early, roomed};
-ghost use Rattle.c_words.specs.Answers.{Given, answer};
+ghost use Rattle.c_words.specs.Answers.{Handed};
 
 use bits::Refusal;
 
@@ -17,9 +17,9 @@ pub fn status(r: Refusal) -> u64
 fn is_early(number: u32) -> bool
     ensures { result ≡ is_early number }
 {
-    let first = bits::both(1 <= number, number <= 2);
-    let later = bits::both(8 <= number, number <= 10);
-    bits::either(first, later)
+    let first = 1 <= number && number <= 2;
+    let later = 8 <= number && number <= 10;
+    first || later
 }
 
 // 3 in its turn, where the lent words are too short.
@@ -36,14 +36,20 @@ fn with_room(r: Refusal, short: bool) -> Refusal
     }
 }
 
-// A record's words, unless it is refused or they have no room; and the status.
-pub fn give(r: Refusal, values: &[u64], out: &mut [u64]) -> u64
-    ensures { Given (answer r values.now) out.old result out.new }
+// A record's words, unless they have no room; and the status.
+pub fn give<const N: usize>(words: [u64; N], out: &mut [u64]) -> u64
+    ensures { Handed N (Ok words.entry) out.old result out.new }
 {
-    let refusal = with_room(r, out.len() < values.len());
-    if refusal.number != 0 {
-        return status(refusal);
+    if out.len() < N {
+        return status(bits::refused(3, 0));
     }
-    fill::fill_u64(out, 0, values);
-    status(refusal)
+    fill::fill_u64(out, 0, &words);
+    0
+}
+
+// The status of a refusal, beside which there are no words; 3 in its turn, where n words have no room.
+pub fn refuse(r: Refusal, n: usize, out: &[u64]) -> u64
+    ensures { result ≡ status_of (roomed r (ltb (length out.now) n)) }
+{
+    status(with_room(r, out.len() < n))
 }

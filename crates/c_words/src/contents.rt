@@ -14,12 +14,10 @@ pub fn no_room(n: usize, f: Frame) -> Refusal
     if 16777216 < n {
         return bits::refused(2, 0);
     }
-    let g = grid::measure(f);
-    let own = g.refusal;
-    if own.number != 0 {
-        return own;
+    match grid::measure(f) {
+        Ok(_) => bits::refused(3, 0),
+        Err(own) => own,
     }
-    bits::refused(3, 0)
 }
 
 // A table's three numbers as words, and the status of what was read.

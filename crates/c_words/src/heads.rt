@@ -180,7 +180,7 @@ fn give_floats(f: RestorationFilter, out: &mut [f32])
 pub fn has_room(words: usize, signed: usize, floats: usize) -> bool
     ensures { result ≡ record_room words signed floats }
 {
-    bits::both(51 <= words, bits::both(2 <= signed, 22 <= floats))
+    51 <= words && (2 <= signed && 22 <= floats)
 }
 
 // The two signed numbers: x0, y0.
