@@ -30,16 +30,16 @@ refused_by_room false early r e h = h
 refused_by_room true true r e h = rw e h
 refused_by_room true false r e h = rw e
 
-pub handed_given : {A : Type 0} (r : Refusal) (a : A) (words : A → List ℕ) (l : List ℕ) {before after : List ℕ} {word : ℕ} → Plain r → (r.number ≡ 0 → words a ≡ l)
-    → Handed (length l) (words_of words (answered r a)) before word after → Given (answer r l) before word after
-handed_given r a words l {before} {after} {word} plain same h =
-    let short : Bool = ltb (length before) (length l) in
+pub handed_given : {A : Type 0} (words : A → List ℕ) (r : Refusal) (a : A) {before after : List ℕ} {word : ℕ} → Plain r
+    → Handed (length (words a)) (words_of words (answered r a)) before word after → Given (answer r (words a)) before word after
+handed_given words r a {before} {after} {word} plain h =
+    let short : Bool = ltb (length before) (length (words a)) in
     split (eqb r.number 0)
     (λ t.
     let z : r.number ≡ 0 = eqb-true r.number 0 t in
-    let g : Handed (length l) (Ok l) before word after = rw (answered_yes r a z, same z) at h in
-    record { status = rw (plain z) g.status; words = rw (plain z) (g.words ∙ put_in short l before) })
+    let g : Handed (length (words a)) (Ok (words a)) before word after = rw (answered_yes r a z) at h in
+    record { status = rw (plain z) g.status; words = rw (plain z) (g.words ∙ put_in short (words a) before) })
     (λ t.
-    let g : Handed (length l) (Err r) before word after = rw (answered_no r a (eqb-false r.number 0 t)) at h in
+    let g : Handed (length (words a)) (Err r) before word after = rw (answered_no r a (eqb-false r.number 0 t)) at h in
     let no : eqb (roomed r short).number 0 ≡ false = refused_by_room short (is_early r.number) r refl t in
     record { status = g.status; words = g.words ∙ kept_in short r before ∙ rw no })

@@ -9,16 +9,17 @@ use Rattle.bits.specs.declared.Refusal.{Refusal}
 use Rattle.bits.specs.Refusals.{pick, refusal, none}
 use Rattle.grid.specs.declared.Frame.{Frame}
 use Rattle.grid.specs.Measured.{Measured, grid_in, grid_of}
-use Rattle.grid.specs.Groups.{judge}
+use Rattle.grid.specs.declared.Rect.{Rect}
+use Rattle.grid.specs.Groups.{judge, numbered, placed, touching, sampled, rect_for, touch_for, lf_index_of, index_for}
 use Rattle.grid.proofs.Answered.{measured_from}
 use Rattle.order.specs.declared.SectionNumber.{SectionNumber}
 use Rattle.order.specs.declared.SentNumber.{SentNumber}
 use Rattle.order.specs.Order.{checked}
 use Rattle.order.specs.Numbers.{looked_up, entry_at, sent_of, section_of, SentAnswer, SectionAnswer}
-use Rattle.sections.specs.Lookups.{place_refusal, sent_of_section, section_of_sent}
-use Rattle.sections.specs.Kinds.{section_answer, section_of_kind}
+use Rattle.sections.specs.Lookups.{place_refusal, place_by, place_of, section_of_sample, sent_of_section, section_of_sent}
+use Rattle.sections.specs.Kinds.{kind_of, section_answer, section_of_kind}
 use Rattle.layout.specs.declared.Layout.{Layout}
-use Rattle.layout.specs.Layouts.{section_in}
+use Rattle.layout.specs.Layouts.{layout_of, section_in}
 use Rattle.c_words.specs.Records.{section_of_numbers}
 use Rattle.c_words.specs.Layouts.{section_by}
 
@@ -41,7 +42,7 @@ plain_pick = plain_of (λ r. r)
 pub plain_grid : (f : Frame) → Plain (grid_of f).refusal
 plain_grid f z = ap (λ (m : Measured). m.refusal) (sym (measured_from f (grid_in (grid_of f)) z refl))
 
-pub plain_judge : (f : Frame) (known : Bool) → Plain (judge (grid_of f) known)
+plain_judge : (f : Frame) (known : Bool) → Plain (judge (grid_of f) known)
 unfolding judge
 plain_judge f known = plain_pick _ _ _ (plain_pick known _ _ plain_none (plain_number 14 0 refl)) (plain_grid f)
 
@@ -61,7 +62,7 @@ plain_section_of : (inverse : List ℕ) (count : ℕ) (sent : SentNumber) → Pl
 unfolding section_of entry_at
 plain_section_of inverse count sent = plain_looked inverse count sent.0
 
-pub plain_place : (f : Frame) (o s i : ℕ) → Plain (place_refusal (grid_of f) o s i)
+plain_place : (f : Frame) (o s i : ℕ) → Plain (place_refusal (grid_of f) o s i)
 unfolding place_refusal
 plain_place f o s i = plain_pick _ _ _ (plain_pick _ _ _ (plain_judge f _) (plain_number 3 0 refl)) (plain_grid f)
 
@@ -88,3 +89,41 @@ plain_in l x y pass = plain_of (λ (a : SectionAnswer). a.refusal) _ _ _ plain_n
 pub plain_by : (words : List ℕ) (x y pass : ℕ) → Plain (section_by words x y pass).refusal
 unfolding section_by
 plain_by words x y pass = plain_of (λ (a : SectionAnswer). a.refusal) _ _ _ (plain_number 3 0 refl) (plain_in _ x y pass)
+
+-- the questions on a frame
+module _ (f : Frame) where
+  pub plain_sampled : (n u : ℕ) → Plain (sampled f n u).refusal
+  unfolding sampled numbered
+  plain_sampled n u = plain_grid f
+
+  pub plain_rect : (side i : ℕ) → Plain (rect_for (grid_of f) side i).refusal
+  unfolding rect_for placed
+  plain_rect side i = plain_judge f _
+
+  pub plain_touch : (side i : ℕ) (region : Rect) → Plain (touch_for (grid_of f) side i region).refusal
+  unfolding touch_for touching
+  plain_touch side i region = plain_judge f _
+
+  pub plain_lf : (i : ℕ) → Plain (lf_index_of (grid_of f) i).refusal
+  unfolding lf_index_of numbered
+  plain_lf i = plain_judge f _
+
+  pub plain_index : (x y : ℕ) → Plain (index_for (grid_of f) x y).refusal
+  unfolding index_for numbered
+  plain_index x y = plain_judge f _
+
+  pub plain_sample : (x y pass : ℕ) → Plain (section_of_sample f x y pass).refusal
+  unfolding section_of_sample
+  plain_sample x y pass = plain_kind f _ _
+
+  pub plain_kind_of : (section : SectionNumber) → Plain (kind_of f section).refusal
+  unfolding kind_of
+  plain_kind_of section = plain_judge f _
+
+  pub plain_layout : Plain (layout_of f).refusal
+  unfolding layout_of
+  plain_layout = plain_grid f
+
+  pub plain_place_of : (offsets sizes : List ℕ) (section : SectionNumber) → Plain (place_of f offsets sizes section).refusal
+  unfolding place_of place_by
+  plain_place_of offsets sizes section = plain_place f _ _ _

@@ -1,22 +1,13 @@
 -- The questions on a header, over its words.
-use Prim.Native.Nat.{ℕ}
-use mathlib.Core.Path.{◌≡◌, refl, ◌∙◌}
-use mathlib.Core.Bool.{Bool, not, ◌&&◌, ◌||◌}
-use lib.Dec.{leb, eqb}
+use mathlib.Core.Path.{◌≡◌, refl}
+use mathlib.Core.Bool.{not, ◌&&◌, ◌||◌}
+use lib.Dec.{leb}
 use Rattle.types.specs.declared.FrameType.{FrameType}
 use Rattle.types.specs.declared.FrameType.TheVariants.{RegularFrame, LfFrame, ReferenceOnly, SkipProgressive}
 use Rattle.header.specs.declared.FrameHeader.{FrameHeader}
 use Rattle.header.specs.Questions.{is_keyframe, can_reference}
 use Rattle.types.specs.Types.{frame_type_number, is_type, is_normal, is_lf}
 use Rattle.export.specs.Asked.{keyframe, referable}
-
-pub keyframe_is : (n duration : ℕ) (last : Bool) (normal e r : Bool) → normal ≡ (eqb n 0 || eqb n 3) → e ≡ (last || not (eqb duration 0))
-    → r ≡ (normal && e) → r ≡ keyframe n last duration
-keyframe_is n duration last normal e r en ee er = er ∙ rw (en, ee)
-
-pub referable_is : (n duration saved : ℕ) (last : Bool) (other kept both r : Bool) → other ≡ (leb n 3 && not (eqb n 1))
-    → kept ≡ (eqb duration 0 || not (eqb saved 0)) → both ≡ (not last && kept) → r ≡ (both && other) → r ≡ referable n last duration saved
-referable_is n duration saved last other kept both r eo en eb er = er ∙ rw (eb, en, eo)
 
 -- over a header's own words they are the header's questions
 normal_by : (k : FrameType) → (is_type (frame_type_number k) RegularFrame || is_type (frame_type_number k) SkipProgressive) ≡ is_normal k

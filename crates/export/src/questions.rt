@@ -10,8 +10,8 @@ use types::FrameFlags;
 pub fn hingevale_is_keyframe(frame_type: u32, is_last: bool, duration: u32) -> bool
     ensures { result ≡ keyframe frame_type is_last duration }
 {
-    let normal = bits::either(frame_type == 0, frame_type == 3);
-    bits::both(normal, bits::either(is_last, duration != 0))
+    let normal = frame_type == 0 || frame_type == 3;
+    normal && (is_last || duration != 0)
 }
 
 // Whether other frames can refer to it: not the last, of no duration or saved, and no LF frame.
@@ -23,9 +23,9 @@ pub fn hingevale_can_reference(
 ) -> bool
     ensures { result ≡ referable frame_type is_last duration save_as_reference }
 {
-    let other = bits::both(frame_type <= 3, frame_type != 1);
-    let kept = bits::either(duration == 0, save_as_reference != 0);
-    bits::both(bits::both(!is_last, kept), other)
+    let other = frame_type <= 3 && frame_type != 1;
+    let kept = duration == 0 || save_as_reference != 0;
+    !is_last && kept && other
 }
 
 // The flag questions.
