@@ -9,7 +9,7 @@ use crate::answers::{give, refuse};
 use bits::Refusal;
 use grid::{Frame, Grid, Rect};
 use order::{SectionNumber, SentNumber};
-use sections::{SectionPlace, TocGroupKind};
+use sections::{KindNumbers, SectionPlace, TocGroupKind};
 
 // A frame out of its six numbers.
 pub fn frame(
@@ -128,7 +128,7 @@ pub fn give_kind(answer: Result<TocGroupKind, Refusal>, out: &mut [u64]) -> u64
 {
     match answer {
         Ok(kind) => {
-            let k = sections::kind_numbers(kind);
+            let k = KindNumbers::from(kind);
             give([k.kind as u64, k.pass_idx as u64, k.group_idx as u64], out)
         }
         Err(r) => refuse(r, 3, out),

@@ -13,38 +13,40 @@ use grid::{Frame, Grid, found, measure};
 use order::SectionNumber;
 
 // A kind's number and values.
-pub fn kind_numbers(kind: TocGroupKind) -> KindNumbers
-    ensures { result ≡ numbers_of kind }
-{
-    match kind {
-        TocGroupKind::All => KindNumbers {
-            kind: 0,
-            pass_idx: 0,
-            group_idx: 0,
-        },
-        TocGroupKind::LfGlobal => KindNumbers {
-            kind: 1,
-            pass_idx: 0,
-            group_idx: 0,
-        },
-        TocGroupKind::LfGroup(i) => KindNumbers {
-            kind: 2,
-            pass_idx: 0,
-            group_idx: i,
-        },
-        TocGroupKind::HfGlobal => KindNumbers {
-            kind: 3,
-            pass_idx: 0,
-            group_idx: 0,
-        },
-        TocGroupKind::GroupPass {
-            pass_idx,
-            group_idx,
-        } => KindNumbers {
-            kind: 4,
-            pass_idx,
-            group_idx,
-        },
+impl From<TocGroupKind> for KindNumbers {
+    ghost from_gives = { λ kind numbers. numbers ≡ numbers_of kind };
+
+    fn from(kind: TocGroupKind) -> KindNumbers {
+        match kind {
+            TocGroupKind::All => KindNumbers {
+                kind: 0,
+                pass_idx: 0,
+                group_idx: 0,
+            },
+            TocGroupKind::LfGlobal => KindNumbers {
+                kind: 1,
+                pass_idx: 0,
+                group_idx: 0,
+            },
+            TocGroupKind::LfGroup(i) => KindNumbers {
+                kind: 2,
+                pass_idx: 0,
+                group_idx: i,
+            },
+            TocGroupKind::HfGlobal => KindNumbers {
+                kind: 3,
+                pass_idx: 0,
+                group_idx: 0,
+            },
+            TocGroupKind::GroupPass {
+                pass_idx,
+                group_idx,
+            } => KindNumbers {
+                kind: 4,
+                pass_idx,
+                group_idx,
+            },
+        }
     }
 }
 

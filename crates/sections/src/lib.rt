@@ -4,7 +4,7 @@
 mod kinds;
 mod lookups;
 
-pub use kinds::{kind_numbers, kind_of, section_of_kind, section_of_sample};
+pub use kinds::{kind_of, section_of_kind, section_of_sample};
 pub use lookups::{section_at, section_of_sent, sent_of_section};
 
 // The kind of a section.
