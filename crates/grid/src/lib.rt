@@ -108,6 +108,7 @@ fn sections_of(groups: u64, lf: u64, passes: u64) -> u64
 }
 
 // The grid of a frame whose record is good and whose size isn't zero, or refusal 10 over 65,536 sections: every product is exact.
+#[inline(always)]
 fn counted(f: Frame) -> Result<Grid, Refusal>
     requires { (good_record f ≡ true) × (zero_size f ≡ false) }
     ensures { result ≡ grid_or_refused (pick (too_many f) (refused_grid 10) (laid f)) }
@@ -142,7 +143,9 @@ fn counted(f: Frame) -> Result<Grid, Refusal>
     })
 }
 
-// The one check of every function here: refusals 8, 9 and 10 in that order, all with place 0.
+// The one check of every function here: refusals 8, 9 and 10 in that order, all with place 0. Put into each look-up, so that none counts what it
+// doesn't use.
+#[inline(always)]
 pub fn measure(f: Frame) -> Result<Grid, Refusal>
     ensures { result ≡ grid_or_refused (grid_of f) }
 {

@@ -37,7 +37,8 @@ fn mark_all(order: &[u32], n: usize, marks: &mut [u8]) -> bool
     true
 }
 
-// Whether the entries are a permutation of 0 to count - 1. A small frame doesn't pay for the marks of a large one.
+// Whether the entries are a permutation of 0 to count - 1. The marks are two tables of a fixed size, since nothing here takes memory from a heap;
+// a small frame doesn't pay for the marks of a large one.
 fn is_order(order: &[u32], count: u32) -> bool
     requires { count ≤ 65536 }
     ensures { result ≡ is_order count order.now }
