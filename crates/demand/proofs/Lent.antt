@@ -9,15 +9,12 @@ use lib.Seq.{sets, get_or-take}
 use borrow.Author.Tests.{le-ltb}
 use Rattle.bits.specs.Refusals.{refusal, none}
 use Rattle.grid.specs.declared.Frame.{Frame}
-use Rattle.grid.specs.declared.Grid.{Grid}
-use Rattle.grid.specs.declared.Placed.{Placed}
-use Rattle.grid.specs.Measured.{grid_of, laid}
+use Rattle.grid.specs.Measured.{Measured, grid_of, laid}
 use Rattle.grid.specs.Sizes.{color_width, color_height, group_side, count}
-use Rattle.grid.specs.Groups.{has, placed, rect_for}
+use Rattle.grid.specs.Groups.{Placed, has, placed, rect_for}
 use Rattle.grid.proofs.Accepted.{accepted}
 use Rattle.grid.proofs.Answers.{judge_unknown}
-use Rattle.order.specs.declared.SectionAnswer.{SectionAnswer}
-use Rattle.order.specs.declared.SentAnswer.{SentAnswer}
+use Rattle.order.specs.Numbers.{SentAnswer, SectionAnswer}
 use Rattle.order.proofs.Tables.{filled_sets}
 use Rattle.sections.specs.Kinds.{KindTold, kind_of}
 use Rattle.sections.specs.Lookups.{section_of_sample}
@@ -60,11 +57,11 @@ module _ (f : Frame) (toc : Toc) (due sent : List ℕ) (t : Tables) (ok : (grid_
     (w : Whole f toc due sent t) where
   groups_are : (grid_of f).groups ≡ count (color_width f) (color_height f) (group_side f)
   unfolding laid
-  groups_are = ap (λ (g : Grid). g.groups) (accepted f ok).grid
+  groups_are = ap (λ (g : Measured). g.groups) (accepted f ok).grid
 
   grid_none : (grid_of f).refusal ≡ none
   unfolding laid
-  grid_none = ap (λ (g : Grid). g.refusal) (accepted f ok).grid
+  grid_none = ap (λ (g : Measured). g.refusal) (accepted f ok).grid
 
   rect_none : (i : ℕ) → i < (grid_of f).groups → (group_rect f i).refusal ≡ none
   rect_none i l = ap (λ (p : Placed). p.refusal) (rect_is f ok i (rw groups_are at l))
@@ -72,7 +69,7 @@ module _ (f : Frame) (toc : Toc) (due sent : List ℕ) (t : Tables) (ok : (grid_
   rect_past : (i : ℕ) → (grid_of f).groups ≤ i → (group_rect f i).refusal ≡ refusal 14 0
   unfolding rect_for placed has laid
   rect_past i l =
-      let g : Grid = grid_of f in
+      let g : Measured = grid_of f in
       let no : has g g.side i ≡ false =
       rw (accepted f ok).grid (le-ltb i (count (color_width f) (color_height f) (group_side f)) (rw groups_are at l)) in
       sym (judge_unknown g (has g g.side i) (refusal 14 0) ok no refl)

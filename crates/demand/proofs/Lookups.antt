@@ -11,18 +11,14 @@ use borrow.Author.Tests.{le-leb, lt-ltb, ltb-true}
 use Rattle.bits.specs.declared.Refusal.{Refusal}
 use Rattle.bits.specs.Refusals.{pick, none}
 use Rattle.grid.specs.declared.Frame.{Frame}
-use Rattle.grid.specs.declared.Grid.{Grid}
-use Rattle.grid.specs.declared.Number.{Number}
-use Rattle.grid.specs.declared.Placed.{Placed}
 use Rattle.grid.specs.Sizes.{color_width, color_height, group_side, count}
-use Rattle.grid.specs.Measured.{grid_of, laid}
-use Rattle.grid.specs.Groups.{told, has, placed, clipped, cell_of, rect_of, rect_for}
+use Rattle.grid.specs.Measured.{Measured, grid_of, laid}
+use Rattle.grid.specs.Groups.{Placed, Number, told, has, placed, clipped, cell_of, rect_of, rect_for}
 use Rattle.grid.proofs.Accepted.{accepted}
 use Rattle.grid.proofs.Answers.{judge_known, judged}
 use Rattle.order.specs.declared.SectionNumber.{SectionNumber}
 use Rattle.order.specs.declared.SentNumber.{SentNumber}
-use Rattle.order.specs.declared.SectionAnswer.{SectionAnswer}
-use Rattle.order.specs.declared.SentAnswer.{SentAnswer}
+use Rattle.order.specs.Numbers.{SentAnswer, SectionAnswer}
 use Rattle.order.specs.Order.{is_order}
 use Rattle.order.specs.Tables.{inverse_of, filled}
 use Rattle.order.proofs.Entries.{and_both}
@@ -31,8 +27,7 @@ use Rattle.order.proofs.Reach.{order_length, order_below}
 use Rattle.order.proofs.Inverse.{inverse_length, inverse_order}
 use Rattle.order.proofs.Tables.{filled_length}
 use Rattle.order.proofs.Numbers.{sent_answer_lem, section_answer_lem}
-use Rattle.sections.specs.declared.SectionPlace.{SectionPlace}
-use Rattle.sections.specs.Lookups.{sent_of_section, section_of_sent}
+use Rattle.sections.specs.Lookups.{PlaceAnswer, sent_of_section, section_of_sent}
 use Rattle.sections.proofs.Asking.{place_judged, place_yes, sent_yes, back_yes}
 use Rattle.toc.specs.declared.Toc.{Toc}
 use Rattle.toc.specs.declared.TocRead.TheVariants.{Table}
@@ -120,9 +115,9 @@ module _ (f : Frame) (toc : Toc) (due sent : List ℕ) (t : Tables) (r : Ready f
 
   -- a section's place
   pub place_is : (j : SectionNumber) → j.0 < toc.count
-      → ◌≡◌ {A = SectionPlace} (place_in f t j) (record { offset = get_or t.offsets j.0 0; size = get_or t.sizes j.0 0; refusal = none })
+      → ◌≡◌ {A = PlaceAnswer} (place_in f t j) (record { offset = get_or t.offsets j.0 0; size = get_or t.sizes j.0 0; refusal = none })
   place_is j l =
-      let g : Grid = grid_of f in
+      let g : Measured = grid_of f in
       let o : ℕ = length t.offsets in
       let z : ℕ = length t.sizes in
       let low : ltb j.0 g.sections ≡ true = lt-ltb j.0 g.sections (omega (arith, r.count)) in
@@ -136,10 +131,10 @@ module _ (f : Frame) (toc : Toc) (due sent : List ℕ) (t : Tables) (r : Ready f
   sent_number_lem j l = ap (λ (a : SentAnswer). a.sent.0) (sent_is j l)
 
   size_is : (j : SectionNumber) → j.0 < toc.count → (place_in f t j).size ≡ get_or sent (get_or due j.0 0) 0
-  size_is j l = ap (λ (a : SectionPlace). a.size) (place_is j l) ∙ r.size j.0 l
+  size_is j l = ap (λ (a : PlaceAnswer). a.size) (place_is j l) ∙ r.size j.0 l
 
   offset_is : (j : SectionNumber) → j.0 < toc.count → (place_in f t j).offset ≡ toc.bookmark + sent_before sent (get_or due j.0 0)
-  offset_is j l = ap (λ (a : SectionPlace). a.offset) (place_is j l) ∙ r.offset j.0 l
+  offset_is j l = ap (λ (a : PlaceAnswer). a.offset) (place_is j l) ∙ r.offset j.0 l
 
   -- the sizes of all sections sent before one: by section, and as they were sent
   before_is : (j : SectionNumber) → j.0 < toc.count → sizes_before f toc t j ≡ sent_before sent (get_or due j.0 0)
@@ -157,7 +152,7 @@ module _ (f : Frame) (toc : Toc) (due sent : List ℕ) (t : Tables) (r : Ready f
   -- a section starts where it is due
   pub starts : (j : SectionNumber) → j.0 < toc.count → Starts f toc sent t j
   starts j l = record {
-    answered = ap (λ (a : SectionPlace). a.refusal) (place_is j l);
+    answered = ap (λ (a : PlaceAnswer). a.refusal) (place_is j l);
     offset = offset_is j l ∙ ap (λ (k : ℕ). toc.bookmark + k) (sym (before_is j l));
     offset_as_sent = offset_is j l ∙ ap (λ (k : ℕ). toc.bookmark + sent_before sent k) (sym (sent_number_lem j l));
     size = size_is j l ∙ ap (λ (k : ℕ). get_or sent k 0) (sym (sent_number_lem j l));
@@ -167,11 +162,11 @@ module _ (f : Frame) (toc : Toc) (due sent : List ℕ) (t : Tables) (r : Ready f
 module _ (f : Frame) (ok : (grid_of f).refusal.number ≡ 0) where
   pub width_answer : ◌≡◌ {A = Number} (colour_width f) (record { value = color_width f; refusal = none })
   unfolding laid
-  width_answer = ap (λ (g : Grid). told g g.width) (accepted f ok).grid
+  width_answer = ap (λ (g : Measured). told g g.width) (accepted f ok).grid
 
   pub height_answer : ◌≡◌ {A = Number} (colour_height f) (record { value = color_height f; refusal = none })
   unfolding laid
-  height_answer = ap (λ (g : Grid). told g g.height) (accepted f ok).grid
+  height_answer = ap (λ (g : Measured). told g g.height) (accepted f ok).grid
 
   pub width_is : (colour_width f).value ≡ color_width f
   width_is = ap (λ (n : Number). n.value) width_answer
@@ -184,7 +179,7 @@ module _ (f : Frame) (ok : (grid_of f).refusal.number ≡ 0) where
 
   side_is : (grid_of f).side ≡ group_side f
   unfolding laid
-  side_is = ap (λ (g : Grid). g.side) (accepted f ok).grid
+  side_is = ap (λ (g : Measured). g.side) (accepted f ok).grid
 
   -- `group_rect` answers for the groups below the count
   pub rect_is : (i : ℕ) → i < count (color_width f) (color_height f) (group_side f)
@@ -194,7 +189,7 @@ module _ (f : Frame) (ok : (grid_of f).refusal.number ≡ 0) where
   pub has_group_lem : (i : ℕ) → (group_rect f i).refusal ≡ none → i < count (color_width f) (color_height f) (group_side f)
   unfolding rect_for placed has laid
   has_group_lem i e =
-      let g : Grid = grid_of f in
+      let g : Measured = grid_of f in
       let known = (judged g (has g g.side i) (ap (λ (r : Refusal). r.number) e)).1 in
       ltb-true i (count (color_width f) (color_height f) (group_side f)) (rw (accepted f ok).grid at known)
 

@@ -14,8 +14,7 @@ use Rattle.bits.specs.Refusals.{pick, refusal, none, start, clear}
 use Rattle.bits.specs.Table.{read}
 use Rattle.bits.proofs.Reading.{of_both}
 use Rattle.grid.specs.declared.Frame.{Frame}
-use Rattle.grid.specs.declared.Grid.{Grid}
-use Rattle.grid.specs.Measured.{good_record, zero_size, too_many, laid, refused_grid, grid_of}
+use Rattle.grid.specs.Measured.{Measured, good_record, zero_size, too_many, laid, refused_grid, grid_of}
 use Rattle.header.specs.declared.Facts.{Facts}
 use Rattle.header.specs.Entry.{HeaderTold}
 use Rattle.header.specs.Record.{frame_of}
@@ -128,17 +127,17 @@ grid_8 : (f : Frame) → good_record f ≡ true → Not8 (grid_of f).refusal.num
 unfolding grid_of refused_grid laid
 grid_8 f g =
     rw g
-    (of_both (λ (x : Grid). Not8 x.refusal.number) (zero_size f) (refused_grid 9) (pick (too_many f) (refused_grid 10) (laid f)) (λ e. omega arith)
-    (of_both (λ (x : Grid). Not8 x.refusal.number) (too_many f) (refused_grid 10) (laid f) (λ e. omega arith) (λ e. omega arith)))
+    (of_both (λ (x : Measured). Not8 x.refusal.number) (zero_size f) (refused_grid 9) (pick (too_many f) (refused_grid 10) (laid f)) (λ e. omega arith)
+    (of_both (λ (x : Measured). Not8 x.refusal.number) (too_many f) (refused_grid 10) (laid f) (λ e. omega arith) (λ e. omega arith)))
 
 -- no frame is refused with 11
 grid_11 : (f : Frame) → Not11 (grid_of f).refusal.number
 unfolding grid_of refused_grid laid
 grid_11 f =
-    let counted : Grid = pick (too_many f) (refused_grid 10) (laid f) in
-    of_both (λ (x : Grid). Not11 x.refusal.number) (good_record f) (pick (zero_size f) (refused_grid 9) counted) (refused_grid 8)
-    (of_both (λ (x : Grid). Not11 x.refusal.number) (zero_size f) (refused_grid 9) counted (λ e. omega arith)
-    (of_both (λ (x : Grid). Not11 x.refusal.number) (too_many f) (refused_grid 10) (laid f) (λ e. omega arith) (λ e. omega arith)))
+    let counted : Measured = pick (too_many f) (refused_grid 10) (laid f) in
+    of_both (λ (x : Measured). Not11 x.refusal.number) (good_record f) (pick (zero_size f) (refused_grid 9) counted) (refused_grid 8)
+    (of_both (λ (x : Measured). Not11 x.refusal.number) (zero_size f) (refused_grid 9) counted (λ e. omega arith)
+    (of_both (λ (x : Measured). Not11 x.refusal.number) (too_many f) (refused_grid 10) (laid f) (λ e. omega arith) (λ e. omega arith)))
     (λ e. omega arith)
 
 pub allowed_8 : (s : List ℕ) (f : Frame) (place : ℕ) → good_record f ≡ true → Allowed Not8 s f place

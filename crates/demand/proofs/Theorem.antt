@@ -10,13 +10,12 @@ use Rattle.bits.specs.Refusals.{none}
 use Rattle.grid.specs.declared.Frame.{Frame}
 use Rattle.grid.specs.Sizes.{up, color_width, color_height, group_side}
 use Rattle.grid.specs.Groups.{index_at}
-use Rattle.order.specs.declared.SectionAnswer.{SectionAnswer}
-use Rattle.order.specs.declared.SentAnswer.{SentAnswer}
+use Rattle.order.specs.Numbers.{SentAnswer, SectionAnswer}
 use Rattle.order.specs.Tables.{identity, inverse_of}
 use Rattle.order.proofs.Reach.{order_below}
 use Rattle.order.proofs.Inverse.{inverse_order, inverse_there}
 use Rattle.sections.specs.declared.KindNumbers.{KindNumbers}
-use Rattle.sections.specs.declared.SectionPlace.{SectionPlace}
+use Rattle.sections.specs.Lookups.{PlaceAnswer}
 use Rattle.sections.specs.Kinds.{KindTold}
 use Rattle.toc.specs.declared.Toc.{Toc}
 use Rattle.toc.specs.declared.TocRead.TheVariants.{Table}
@@ -62,15 +61,15 @@ module _ (f : Frame) (toc : Toc) (due sent : List ℕ) (t : Tables) (r : Ready f
   lies : (b j : ℕ) → Holds toc t b j → Lies f toc t b j
   lies b j h =
       let e = place_is f toc due sent t r (numbered j) h.section in
-      let o : (place_in f t (numbered j)).offset ≡ get_or t.offsets j 0 = ap (λ (p : SectionPlace). p.offset) e in
-      let z : (place_in f t (numbered j)).size ≡ get_or t.sizes j 0 = ap (λ (p : SectionPlace). p.size) e in
+      let o : (place_in f t (numbered j)).offset ≡ get_or t.offsets j 0 = ap (λ (p : PlaceAnswer). p.offset) e in
+      let z : (place_in f t (numbered j)).size ≡ get_or t.sizes j 0 = ap (λ (p : PlaceAnswer). p.size) e in
       record { section = h.section; from = omega (arith, h.from); to = omega (arith, h.to) }
 
   holds : (b j : ℕ) → Lies f toc t b j → Holds toc t b j
   holds b j h =
       let e = place_is f toc due sent t r (numbered j) h.section in
-      let o : (place_in f t (numbered j)).offset ≡ get_or t.offsets j 0 = ap (λ (p : SectionPlace). p.offset) e in
-      let z : (place_in f t (numbered j)).size ≡ get_or t.sizes j 0 = ap (λ (p : SectionPlace). p.size) e in
+      let o : (place_in f t (numbered j)).offset ≡ get_or t.offsets j 0 = ap (λ (p : PlaceAnswer). p.offset) e in
+      let z : (place_in f t (numbered j)).size ≡ get_or t.sizes j 0 = ap (λ (p : PlaceAnswer). p.size) e in
       record { section = h.section; from = omega (arith, h.from); to = omega (arith, h.to) }
 
   bytes : OneSection f toc t

@@ -5,21 +5,17 @@
 use Rattle.std.specs.Prelude.{ℕ, ◌+◌, ◌≤◌, ◌<◌, ◌≡◌, List, ltb, get_or, take}
 use Rattle.bits.specs.Refusals.{pick, none}
 use Rattle.grid.specs.declared.Frame.{Frame}
-use Rattle.grid.specs.declared.Number.{Number}
 use Rattle.grid.specs.declared.Rect.{Rect}
-use Rattle.grid.specs.declared.Placed.{Placed}
 use Rattle.grid.specs.Sizes.{color_width, color_height}
 use Rattle.grid.specs.Measured.{grid_of}
-use Rattle.grid.specs.Groups.{told, rect_for}
+use Rattle.grid.specs.Groups.{Placed, Number, told, rect_for}
 use Rattle.order.specs.declared.SectionNumber.{SectionNumber}
 use Rattle.order.specs.declared.SentNumber.{SentNumber}
-use Rattle.order.specs.declared.SectionAnswer.{SectionAnswer}
-use Rattle.order.specs.declared.SentAnswer.{SentAnswer}
+use Rattle.order.specs.Numbers.{SentAnswer, SectionAnswer}
 use Rattle.order.specs.Sums.{sum_to}
 use Rattle.sections.specs.declared.TocGroupKind.TheVariants.{All, GroupPass}
-use Rattle.sections.specs.declared.SectionPlace.{SectionPlace}
 use Rattle.sections.specs.Kinds.{numbers_of, KindTold, kind_of}
-use Rattle.sections.specs.Lookups.{section_of_sample, place_of, sent_of_section, section_of_sent}
+use Rattle.sections.specs.Lookups.{PlaceAnswer, section_of_sample, place_of, sent_of_section, section_of_sent}
 use Rattle.toc.specs.declared.Toc.{Toc}
 use Rattle.toc.specs.Sizes.{sent_before}
 use Rattle.toc.specs.Reading.{Tables}
@@ -43,7 +39,7 @@ abbrev pub found : Frame → ℕ → ℕ → ℕ → SectionNumber
 found f x y pass = (section_of_sample f x y pass).section
 
 -- `section_at`, over the lent offsets and sizes
-abbrev pub place_in : Frame → Tables → SectionNumber → SectionPlace
+abbrev pub place_in : Frame → Tables → SectionNumber → PlaceAnswer
 place_in f t section = place_of f t.offsets t.sizes section
 
 -- `sent_of_section`, over the first count words of the lent order

@@ -22,9 +22,8 @@ use Rattle.header.specs.Blending.{covers_image, resets}
 use Rattle.header.specs.Entry.{judged, stands, HeaderTold, answered}
 use Rattle.sections.specs.declared.TocGroupKind.{TocGroupKind}
 use Rattle.sections.specs.declared.TocGroupKind.TheVariants.{LfGlobal, LfGroup, HfGlobal}
-use Rattle.sections.specs.declared.SectionPlace.{SectionPlace}
 use Rattle.sections.specs.Kinds.{section_of_kind}
-use Rattle.sections.specs.Lookups.{place_of}
+use Rattle.sections.specs.Lookups.{PlaceAnswer, place_of}
 use Rattle.toc.specs.declared.TocRead.{TocRead}
 use Rattle.toc.specs.declared.TocRead.TheVariants.{Table, Refused}
 use Rattle.toc.specs.Reading.{Tables, tables, Reading, second_reading, after}
@@ -49,10 +48,10 @@ abbrev pub width_at : Frame → ℕ → ℕ
 width_at f i = (rect_for (grid_of f) (grid_of f).side i).rect.width
 
 -- where the section of a kind lies, through the look-ups by kind and by section
-abbrev pub place_of_kind : Frame → Tables → TocGroupKind → SectionPlace
+abbrev pub place_of_kind : Frame → Tables → TocGroupKind → PlaceAnswer
 place_of_kind f t kind = place_of f t.offsets t.sizes (section_of_kind f kind).section
 
-abbrev pub at : ℕ → ℕ → SectionPlace
+abbrev pub at : ℕ → ℕ → PlaceAnswer
 at offset size = record { offset = offset; size = size; refusal = none }
 
 -- ---- the examples' own numbers

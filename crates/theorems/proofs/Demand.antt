@@ -9,13 +9,12 @@ use lib.ListN.{get_or}
 use lib.Dec.{ltb}
 use Rattle.bits.specs.Refusals.{pick, none}
 use Rattle.grid.specs.declared.Frame.{Frame}
-use Rattle.grid.specs.declared.Grid.{Grid}
 use Rattle.grid.specs.Sizes.{up, color_width, color_height, group_side}
-use Rattle.grid.specs.Measured.{grid_of, laid}
+use Rattle.grid.specs.Measured.{Measured, grid_of, laid}
 use Rattle.grid.specs.Groups.{rect_of, index_at}
 use Rattle.grid.proofs.Accepted.{accepted}
 use Rattle.grid.proofs.Answers.{judge_known}
-use Rattle.order.specs.declared.SectionAnswer.{SectionAnswer}
+use Rattle.order.specs.Numbers.{SectionAnswer}
 use Rattle.order.specs.Tables.{identity, inverse_of}
 use Rattle.order.specs.Sums.{sum_to}
 use Rattle.order.proofs.Sums.{sum_ext}
@@ -218,11 +217,11 @@ module _ (s : List ℕ) (f : Frame) (lent : Tables) (toc : Toc) (q : Reading) (a
   -- the grid's numbers are the frame's
   columns : (grid_of f).columns ≡ up (color_width f) (group_side f)
   unfolding laid
-  columns = ap (λ (g : Grid). g.columns) (accepted f a.frame).grid
+  columns = ap (λ (g : Measured). g.columns) (accepted f a.frame).grid
 
   side : (grid_of f).side ≡ group_side f
   unfolding laid
-  side = ap (λ (g : Grid). g.side) (accepted f a.frame).grid
+  side = ap (λ (g : Measured). g.side) (accepted f a.frame).grid
 
   -- a sample of the colour sample size is one of the grid
   sampled : (x y pass : ℕ) → x < color_width f → y < color_height f → pass < f.num_passes → Sample (grid_of f) f.num_passes x y pass
@@ -238,7 +237,7 @@ module _ (s : List ℕ) (f : Frame) (lent : Tables) (toc : Toc) (q : Reading) (a
 
   found : (x y pass : ℕ) → x < color_width f → y < color_height f → pass < f.num_passes → FoundWhereSent f toc q.sizes t x y pass
   found x y pass hx hy hp =
-      let g : Grid = grid_of f in
+      let g : Measured = grid_of f in
       let h : Sample g f.num_passes x y pass = sampled x y pass hx hy hp in
       let is = sample_answer f a.frame x y pass h in
       let number : ℕ = section_number g (numbers_of (sample_kind g x y pass)) in

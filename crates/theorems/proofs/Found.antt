@@ -10,21 +10,19 @@ use lib.Dec.{leb, ltb}
 use borrow.Author.Tests.{eqb-false, le-leb, lt-ltb}
 use Rattle.bits.specs.Refusals.{none}
 use Rattle.grid.specs.declared.Frame.{Frame}
-use Rattle.grid.specs.declared.Grid.{Grid}
-use Rattle.grid.specs.Measured.{grid_of}
+use Rattle.grid.specs.Measured.{Measured, grid_of}
 use Rattle.grid.specs.Groups.{index_at}
 use Rattle.grid.proofs.Answers.{judge_known}
 use Rattle.order.specs.declared.SectionNumber.{SectionNumber}
-use Rattle.order.specs.declared.SectionAnswer.{SectionAnswer}
+use Rattle.order.specs.Numbers.{SectionAnswer}
 use Rattle.order.proofs.Entries.{and_both}
 use Rattle.order.proofs.Tables.{filled_length}
 use Rattle.toc.specs.declared.Toc.{Toc}
 use Rattle.sections.specs.declared.TocGroupKind.TheVariants.{GroupPass}
-use Rattle.sections.specs.declared.SectionPlace.{SectionPlace}
 use Rattle.sections.specs.Kinds.{numbers_of, section_number}
 use Rattle.toc.specs.Sizes.{sent_before}
 use Rattle.toc.specs.Reading.{Tables, Reading, tables_of, after}
-use Rattle.sections.specs.Lookups.{sample_kind, has_sample, section_of_sample, place_of}
+use Rattle.sections.specs.Lookups.{PlaceAnswer, sample_kind, has_sample, section_of_sample, place_of}
 use Rattle.sections.proofs.OfKinds.{number_pass}
 use Rattle.sections.proofs.Asking.{Sample, sample_group, of_sample_yes, place_judged, place_yes}
 use Rattle.toc.proofs.Accepted.{Accepted}
@@ -44,7 +42,7 @@ module _ (f : Frame) (ok : (grid_of f).refusal.number ≡ 0) (x y pass : ℕ) (a
       → (section_of_sample f x y pass).section.0
       ≡ 1 + (grid_of f).lf_groups + 1 + pass * (grid_of f).groups + index_at (grid_of f).columns (grid_of f).side x y
   sample_section h =
-      let g : Grid = grid_of f in
+      let g : Measured = grid_of f in
       let group : ℕ = index_at g.columns g.side x y in
       ap (λ (r : SectionAnswer). r.section.0) sample_answer
       ∙ rw (← sample_group g x y pass h) (sym (number_pass g (numbers_of (GroupPass pass group)) (eqb-false 4 2 refl) (eqb-false 4 3 refl) refl))
@@ -60,14 +58,14 @@ module _ (s : List ℕ) (f : Frame) (t : Tables) (toc : Toc) (q : Reading) (a : 
   sizes_length = ap (λ (x : Tables). length x.sizes) a.filled ∙ filled_length _ t.sizes
 
   pub place_answer_lem : (j : SectionNumber) → j.0 < toc.count
-      → ◌≡◌ {A = SectionPlace} (place_of f (after q t).offsets (after q t).sizes j)
+      → ◌≡◌ {A = PlaceAnswer} (place_of f (after q t).offsets (after q t).sizes j)
       (record {
         offset = toc.bookmark + sent_before q.sizes (get_or q.order j.0 0);
         size = get_or q.sizes (get_or q.order j.0 0) 0;
         refusal = none;
       })
   place_answer_lem j l =
-      let g : Grid = grid_of f in
+      let g : Measured = grid_of f in
       let o : List ℕ = (after q t).offsets in
       let z : List ℕ = (after q t).sizes in
       let low : ltb j.0 g.sections ≡ true = lt-ltb j.0 g.sections (omega (arith, a.count)) in

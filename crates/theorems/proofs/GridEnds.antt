@@ -9,27 +9,26 @@ use Rattle.bits.specs.declared.Refusal.{Refusal}
 use Rattle.bits.specs.Refusals.{pick, refusal, none}
 use Rattle.bits.proofs.Reading.{of_both}
 use Rattle.grid.specs.declared.Frame.{Frame}
-use Rattle.grid.specs.declared.Grid.{Grid}
 use Rattle.grid.specs.declared.Rect.{Rect}
-use Rattle.grid.specs.Measured.{good_record, zero_size, too_many, laid, refused_grid, grid_of}
+use Rattle.grid.specs.Measured.{Measured, good_record, zero_size, too_many, laid, refused_grid, grid_of}
 use Rattle.grid.specs.Groups.{has, judge, numbered, touching, placed, sampled, told, rect_of, rect_for, size_of, lf_index_of, index_for, touch_for}
 use Rattle.theorems.specs.Refusing.{Refuses, Ends, NumberEnds, TouchEnds, RectEnds, SizeEnds, GridEnds, of_frame, of_index}
 use Rattle.theorems.proofs.Refusing.{refuses_none, refuses_here, refuses_pick, refuses_more, beside}
 
-abbrev Fine : Grid → Type 0
+abbrev Fine : Measured → Type 0
 Fine g = Refuses of_frame 0 g.refusal
 
 pub grid_refuses : (f : Frame) → Refuses of_frame 0 (grid_of f).refusal
 unfolding grid_of laid refused_grid
 grid_refuses f =
-    let counted : Grid = pick (too_many f) (refused_grid 10) (laid f) in
-    let sized : Grid = pick (zero_size f) (refused_grid 9) counted in
+    let counted : Measured = pick (too_many f) (refused_grid 10) (laid f) in
+    let sized : Measured = pick (zero_size f) (refused_grid 9) counted in
     of_both Fine (good_record f) sized (refused_grid 8)
     (of_both Fine (zero_size f) (refused_grid 9) counted (refuses_here of_frame 9 refl refl)
     (of_both Fine (too_many f) (refused_grid 10) (laid f) (refuses_here of_frame 10 refl refl) (refuses_none of_frame 0 refl)))
     (refuses_here of_frame 8 refl refl)
 
-ways_out : (a z m : Bool) (l : Grid) → l.refusal ≡ none
+ways_out : (a z m : Bool) (l : Measured) → l.refusal ≡ none
     → ((pick a (pick z (refused_grid 9) (pick m (refused_grid 10) l)) (refused_grid 8)).refusal.number ≡ 0 → ⊥)
     → pick a (pick z (refused_grid 9) (pick m (refused_grid 10) l)) (refused_grid 8)
     ≡ refused_grid (pick a (pick z (refused_grid 9) (pick m (refused_grid 10) l)) (refused_grid 8)).refusal.number
@@ -45,7 +44,7 @@ unfolding grid_of laid
 refused f h = ways_out (good_record f) (zero_size f) (too_many f) (laid f) refl h
 
 -- a part of the grid that is zero beside a refusal
-part : {A : Type 0} (f : Frame) (of : Grid → A) (zero : A) → ((n : ℕ) → of (refused_grid n) ≡ zero)
+part : {A : Type 0} (f : Frame) (of : Measured → A) (zero : A) → ((n : ℕ) → of (refused_grid n) ≡ zero)
     → Ends of_frame 0 (grid_of f).refusal zero (of (grid_of f))
 part f of zero h = record { refuses = grid_refuses f; either = λ some. ap of (refused f some) ∙ h (grid_of f).refusal.number }
 
@@ -53,7 +52,7 @@ pub measure : (f : Frame) → GridEnds of_frame (grid_of f)
 unfolding refused_grid
 measure f =
     part f
-    (λ (g : Grid).
+    (λ (g : Measured).
     g.width ∷ g.height ∷ g.side ∷ g.lf_side ∷ g.columns ∷ g.rows ∷ g.lf_columns ∷ g.lf_rows ∷ g.groups ∷ g.lf_groups ∷ g.sections ∷ []) _
     (λ n. refl)
 
@@ -67,39 +66,39 @@ sample_height_lem f by = record { refuses = grid_refuses f; either = λ some. be
 
 pub color_sample_width : (f : Frame) → NumberEnds of_frame (told (grid_of f) (grid_of f).width)
 unfolding refused_grid
-color_sample_width f = part f (λ (g : Grid). g.width) 0 (λ n. refl)
+color_sample_width f = part f (λ (g : Measured). g.width) 0 (λ n. refl)
 
 pub color_sample_height : (f : Frame) → NumberEnds of_frame (told (grid_of f) (grid_of f).height)
 unfolding refused_grid
-color_sample_height f = part f (λ (g : Grid). g.height) 0 (λ n. refl)
+color_sample_height f = part f (λ (g : Measured). g.height) 0 (λ n. refl)
 
 pub group_dim : (f : Frame) → NumberEnds of_frame (told (grid_of f) (grid_of f).side)
 unfolding refused_grid
-group_dim f = part f (λ (g : Grid). g.side) 0 (λ n. refl)
+group_dim f = part f (λ (g : Measured). g.side) 0 (λ n. refl)
 
 pub lf_group_dim : (f : Frame) → NumberEnds of_frame (told (grid_of f) (grid_of f).lf_side)
 unfolding refused_grid
-lf_group_dim f = part f (λ (g : Grid). g.lf_side) 0 (λ n. refl)
+lf_group_dim f = part f (λ (g : Measured). g.lf_side) 0 (λ n. refl)
 
 pub groups_per_row : (f : Frame) → NumberEnds of_frame (told (grid_of f) (grid_of f).columns)
 unfolding refused_grid
-groups_per_row f = part f (λ (g : Grid). g.columns) 0 (λ n. refl)
+groups_per_row f = part f (λ (g : Measured). g.columns) 0 (λ n. refl)
 
 pub lf_groups_per_row : (f : Frame) → NumberEnds of_frame (told (grid_of f) (grid_of f).lf_columns)
 unfolding refused_grid
-lf_groups_per_row f = part f (λ (g : Grid). g.lf_columns) 0 (λ n. refl)
+lf_groups_per_row f = part f (λ (g : Measured). g.lf_columns) 0 (λ n. refl)
 
 pub num_groups : (f : Frame) → NumberEnds of_frame (told (grid_of f) (grid_of f).groups)
 unfolding refused_grid
-num_groups f = part f (λ (g : Grid). g.groups) 0 (λ n. refl)
+num_groups f = part f (λ (g : Measured). g.groups) 0 (λ n. refl)
 
 pub num_lf_groups : (f : Frame) → NumberEnds of_frame (told (grid_of f) (grid_of f).lf_groups)
 unfolding refused_grid
-num_lf_groups f = part f (λ (g : Grid). g.lf_groups) 0 (λ n. refl)
+num_lf_groups f = part f (λ (g : Measured). g.lf_groups) 0 (λ n. refl)
 
 pub section_count : (f : Frame) → NumberEnds of_frame (told (grid_of f) (grid_of f).sections)
 unfolding refused_grid
-section_count f = part f (λ (g : Grid). g.sections) 0 (λ n. refl)
+section_count f = part f (λ (g : Measured). g.sections) 0 (λ n. refl)
 
 -- then 14
 pub judged : (f : Frame) (known : Bool) → Refuses of_index 0 (judge (grid_of f) known)
@@ -110,7 +109,7 @@ judged f known =
     (refuses_more of_index of_frame 0 0 (grid_of f).refusal refl refl (omega arith) (grid_refuses f))
 
 -- on any grid, the grid's own or 14
-pub judge_any : (l : List ℕ) (g : Grid) (known : Bool) → Refuses l 0 g.refusal → Refuses l 0 (refusal 14 0) → Refuses l 0 (judge g known)
+pub judge_any : (l : List ℕ) (g : Measured) (known : Bool) → Refuses l 0 g.refusal → Refuses l 0 (refusal 14 0) → Refuses l 0 (judge g known)
 unfolding judge
 judge_any l g known own bad =
     refuses_pick l 0 (eqb g.refusal.number 0) (pick known none (refusal 14 0)) g.refusal

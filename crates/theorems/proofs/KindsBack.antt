@@ -9,13 +9,12 @@ use lib.Arith.{digits_div, digits_mod}
 use borrow.Author.Tests.{eq-eqb, ne_eqb, eqb-true, eqb-false, leb-true, leb-false, lt-ltb, ltb-true}
 use Rattle.bits.specs.Refusals.{pick, none}
 use Rattle.grid.specs.declared.Frame.{Frame}
-use Rattle.grid.specs.declared.Grid.{Grid}
-use Rattle.grid.specs.Measured.{grid_of}
+use Rattle.grid.specs.Measured.{Measured, grid_of}
 use Rattle.grid.specs.Groups.{judge}
 use Rattle.grid.proofs.Accepted.{and_parts}
 use Rattle.grid.proofs.Answers.{judge_known, judged}
 use Rattle.order.specs.declared.SectionNumber.{SectionNumber}
-use Rattle.order.specs.declared.SectionAnswer.{SectionAnswer}
+use Rattle.order.specs.Numbers.{SectionAnswer}
 use Rattle.order.proofs.Entries.{split, and_both}
 use Rattle.sections.specs.declared.TocGroupKind.{TocGroupKind}
 use Rattle.sections.specs.declared.TocGroupKind.TheVariants.{All, LfGlobal, LfGroup, HfGlobal, GroupPass}
@@ -25,11 +24,11 @@ use Rattle.sections.proofs.Counts.{Counts, counts}
 use Rattle.sections.proofs.OfKinds.{at_one, at_first, at_lf, at_hf, at_pass, has_one, has_lf, has_pass_lem, has_global, number_lf, number_hf, number_pass, number_first, number_below, of_kind_yes, kind_yes}
 
 -- the frame has the kind, as section i
-pub record Stands (f : Frame) (g : Grid) (i : ℕ) (kind : TocGroupKind) : Type 0 where
+pub record Stands (f : Frame) (g : Measured) (i : ℕ) (kind : TocGroupKind) : Type 0 where
   pub has : has_kind g f.num_passes (numbers_of kind) ≡ true
   pub number : section_number g (numbers_of kind) ≡ i
 
-module _ (f : Frame) (g : Grid) (n : Counts f g) where
+module _ (f : Frame) (g : Measured) (n : Counts f g) where
   module _ (i : ℕ) (l : i < g.sections) where
     all_stands : g.sections ≡ 1 → Stands f g i All
     unfolding has_kind section_number
@@ -144,7 +143,7 @@ pub section_of_kind_of : (f : Frame) (s : SectionNumber) (kind : TocGroupKind) �
     → ◌≡◌ {A = SectionAnswer} (section_of_kind f kind) (record { section = s; refusal = none })
 unfolding kind_of
 section_of_kind_of f s kind is z =
-    let g : Grid = grid_of f in
+    let g : Measured = grid_of f in
     let ok = judged g (ltb s.0 g.sections) z in
     let st = kind_stands f g (counts f g refl ok.0) s.0 (ltb-true s.0 g.sections ok.1) in
     let n : numbers_of kind ≡ numbers_of (kind_at g s.0) = rw (eq-eqb (judge g (ltb s.0 g.sections)).number 0 z) at is in
@@ -156,7 +155,7 @@ pub kind_of_section_of : (f : Frame) (kind : TocGroupKind) → (section_of_kind 
     → ◌≡◌ {A = KindTold} (kind_of f (section_of_kind f kind).section) (record { numbers = numbers_of kind; refusal = none })
 unfolding section_of_kind section_answer
 kind_of_section_of f kind z =
-    let g : Grid = grid_of f in
+    let g : Measured = grid_of f in
     let k : KindNumbers = numbers_of kind in
     let known : Bool = has_kind g f.num_passes k in
     let ok = judged g known z in

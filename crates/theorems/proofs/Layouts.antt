@@ -9,9 +9,8 @@ use lib.Pow.{pow-add}
 use borrow.Author.Tests.{eqb-true, eqb-false, lt-ltb}
 use Rattle.bits.specs.Refusals.{none, refusal}
 use Rattle.grid.specs.declared.Frame.{Frame}
-use Rattle.grid.specs.declared.Grid.{Grid}
 use Rattle.grid.specs.Sizes.{color_width, group_side}
-use Rattle.grid.specs.Measured.{laid, grid_of}
+use Rattle.grid.specs.Measured.{Measured, laid, grid_of}
 use Rattle.grid.specs.Groups.{index_at}
 use Rattle.grid.proofs.Accepted.{Accepted, accepted, sound}
 use Rattle.grid.proofs.Rounding.{up_le, side_exact}
@@ -30,7 +29,7 @@ use Rattle.layout.proofs.Laid.{number_one, number_of, outside, found}
 use Rattle.c_words.specs.Layouts.{layout_words, layout_by, section_by}
 
 -- of a frame's own layout
-module _ (f : Frame) (g : Grid) (m : g ≡ grid_of f) (z : g.refusal.number ≡ 0) where
+module _ (f : Frame) (g : Measured) (m : g ≡ grid_of f) (z : g.refusal.number ≡ 0) where
   power_is : 2 ^ (7 + f.group_size_shift) ≡ g.side
   power_is =
       let s = sound f g m z in
@@ -104,7 +103,7 @@ laid_small f a = record {
   passes = omega (arith, a.good.passes);
 }
 
-module _ (f : Frame) (g : Grid) (m : g ≡ grid_of f) (z : g.refusal.number ≡ 0) where
+module _ (f : Frame) (g : Measured) (m : g ≡ grid_of f) (z : g.refusal.number ≡ 0) where
   layout_small : Small (laid_out f g)
   layout_small =
       let a = accepted f (rw m at z) in

@@ -14,10 +14,9 @@ use Rattle.bits.specs.Refusals.{pick, none}
 use Rattle.bits.proofs.Bits.{and_left}
 use Rattle.bits.proofs.Reading.{picked, of_both}
 use Rattle.grid.specs.declared.Frame.{Frame}
-use Rattle.grid.specs.declared.Grid.{Grid}
 use Rattle.grid.specs.declared.Rect.{Rect}
 use Rattle.grid.specs.Sizes.{up}
-use Rattle.grid.specs.Measured.{laid, grid_of}
+use Rattle.grid.specs.Measured.{Measured, laid, grid_of}
 use Rattle.grid.specs.Groups.{cell_of, clipped, has, judge, placed, rect_of, rect_for}
 use Rattle.grid.proofs.Rounding.{up_covers, up_pos}
 use Rattle.grid.proofs.Accepted.{Sound, sound, Accepted, accepted, groups_le}
@@ -131,7 +130,7 @@ abbrev SmallKind : KindNumbers → Type 0
 SmallKind k = (k.pass_idx < 100) × (k.group_idx < 10000)
 
 -- its kind: a pass below the frame's passes, and a group no larger than the section's number
-kind_small : (f : Frame) (g : Grid) (i : ℕ) → f.num_passes ≤ 11 → i < 1024 → (kind : TocGroupKind) → Stands f g i kind → SmallKind (numbers_of kind)
+kind_small : (f : Frame) (g : Measured) (i : ℕ) → f.num_passes ≤ 11 → i < 1024 → (kind : TocGroupKind) → Stands f g i kind → SmallKind (numbers_of kind)
 unfolding has_kind section_number
 kind_small f g i p h All w = (omega arith, omega arith)
 kind_small f g i p h LfGlobal w = (omega arith, omega arith)
@@ -148,7 +147,7 @@ pub record SmallRect (r : Rect) : Type 0 where
   pub width : r.width < 10000
   pub height : r.height < 10000
 
-module _ (g : Grid) (side i : ℕ) (w : g.width ≤ 1048576) (h : g.height ≤ 1048576) (s : side ≤ 8192) where
+module _ (g : Measured) (side i : ℕ) (w : g.width ≤ 1048576) (h : g.height ≤ 1048576) (s : side ≤ 8192) where
   square_in : has g side i ≡ true → SmallRect (rect_of g.width g.height side i)
   unfolding cell_of clipped
   square_in t = record {
@@ -167,7 +166,7 @@ module _ (g : Grid) (side i : ℕ) (w : g.width ≤ 1048576) (h : g.height ≤ 1
       (λ e. record { left = omega arith; top = omega arith; width = omega arith; height = omega arith })
 
 -- a picture is no wider and no higher than all its groups in a row
-record Few (f : Frame) (g : Grid) : Type 0 where
+record Few (f : Frame) (g : Measured) : Type 0 where
   groups : g.groups ≤ g.sections
   width : g.width ≤ g.groups * 1024
   height : g.height ≤ g.groups * 1024
@@ -183,7 +182,7 @@ along w side columns rows groups p s e g r =
 few : (f : Frame) → (grid_of f).refusal.number ≡ 0 → Few f (grid_of f)
 unfolding laid
 few f z =
-    let g : Grid = grid_of f in
+    let g : Measured = grid_of f in
     let a : Accepted f = accepted f z in
     let s : Sound f g = sound f g refl z in
     let side : g.side ≤ 1024 = rw a.grid a.side.1 in
@@ -202,7 +201,7 @@ alone_by true e = refl
 alone_by false e = absurd (false≢true e)
 
 module _ (f : Frame) (z : (grid_of f).refusal.number ≡ 0) (h : (grid_of f).sections ≤ 1024) (i : ℕ) (l : i < (grid_of f).sections) where
-  abbrev grid : Grid
+  abbrev grid : Measured
   grid = grid_of f
 
   -- its rectangle: that of All is one group's

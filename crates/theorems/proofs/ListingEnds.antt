@@ -10,8 +10,7 @@ use lib.Seq.{sets}
 use Rattle.bits.specs.declared.Refusal.{Refusal}
 use Rattle.bits.specs.Refusals.{pick, refusal, none}
 use Rattle.grid.specs.declared.Frame.{Frame}
-use Rattle.grid.specs.declared.Grid.{Grid}
-use Rattle.grid.specs.Measured.{grid_of}
+use Rattle.grid.specs.Measured.{Measured, grid_of}
 use Rattle.order.specs.Order.{checked}
 use Rattle.listing.specs.declared.TextAnswer.{TextAnswer}
 use Rattle.listing.specs.Put.{fitted, answer_by, Texted}
@@ -64,7 +63,7 @@ write_order_needed place before a after h = text_ends (order_text place) before 
 listing_refuses : (f : Frame) (offsets sizes order out : List ℕ) → Refuses of_listing 0 (listing_refusal f offsets sizes order out)
 unfolding listing_refusal
 listing_refuses f offsets sizes order out =
-    let g : Grid = grid_of f in
+    let g : Measured = grid_of f in
     let room : Bool =
     (leb g.sections (length offsets) && leb g.sections (length sizes)) && leb (length (listing f offsets sizes order)) (length out) in
     refuses_pick of_listing 0 (eqb g.refusal.number 0) (pick room (checked g.sections order) (refusal 3 0)) g.refusal

@@ -23,8 +23,7 @@ use Rattle.types.specs.declared.BlendMode.TheVariants.{Replace, Add, Blend, MulA
 use Rattle.types.specs.Types.{frame_type_number, encoding_number, blend_mode_number}
 use Rattle.grid.specs.declared.Frame.{Frame}
 use Rattle.order.specs.declared.SectionNumber.{SectionNumber}
-use Rattle.sections.specs.declared.KindAnswer.{KindAnswer}
-use Rattle.sections.specs.Kinds.{KindTold, kind_told, kind_of}
+use Rattle.sections.specs.Kinds.{KindAnswer, KindTold, kind_told, kind_of}
 use Rattle.toc.specs.declared.TocRead.{TocRead}
 use Rattle.toc.specs.Reading.{Tables, Reading, first_reading, second_reading, Done}
 use Rattle.toc.proofs.Accepted.{Telling, same_answer, first_telling, second_telling}

@@ -9,12 +9,10 @@ use lib.ListN.{get_or}
 use Rattle.bits.specs.Refusals.{pick, none}
 use Rattle.order.specs.declared.SectionNumber.{SectionNumber}
 use Rattle.order.specs.declared.SentNumber.{SentNumber}
-use Rattle.order.specs.declared.SentAnswer.{SentAnswer}
-use Rattle.order.specs.declared.SectionAnswer.{SectionAnswer}
 use Rattle.order.specs.Order.{has, is_order}
 use Rattle.order.specs.Tables.{tabulate, index_of, inverse_of}
 use Rattle.order.specs.Sums.{sum_to}
-use Rattle.order.specs.Numbers.{sent_of, section_of}
+use Rattle.order.specs.Numbers.{SentAnswer, SectionAnswer, sent_of, section_of}
 use Rattle.order.proofs.Entries.{once, index_of_lem}
 use Rattle.order.proofs.Sums.{sum_ext}
 use Rattle.order.proofs.Reach.{order_length, order_distinct, order_below, order_sum_marks, order_reaches}

@@ -10,8 +10,7 @@ use Rattle.bits.specs.declared.Refusal.{Refusal}
 use Rattle.bits.specs.Refusals.{pick, refusal, none}
 use Rattle.bits.proofs.Reading.{of_both}
 use Rattle.grid.specs.declared.Frame.{Frame}
-use Rattle.grid.specs.declared.Grid.{Grid}
-use Rattle.grid.specs.Measured.{grid_of}
+use Rattle.grid.specs.Measured.{Measured, grid_of}
 use Rattle.grid.specs.Groups.{judge}
 use Rattle.order.specs.declared.SectionNumber.{SectionNumber}
 use Rattle.order.specs.declared.SentNumber.{SentNumber}
@@ -103,7 +102,7 @@ kind_of_lem f section =
 pub section_at : (f : Frame) (offsets sizes : List ℕ) (section : SectionNumber) → PlaceEnds of_index_room (place_of f offsets sizes section)
 unfolding place_of place_by place_refusal
 section_at f offsets sizes section =
-    let g : Grid = grid_of f in
+    let g : Measured = grid_of f in
     let room : Bool = leb g.sections (length offsets) && leb g.sections (length sizes) in
     let last : Refusal = pick room (judge g (ltb section.0 g.sections)) (refusal 3 0) in
     let r : Refusal = pick (eqb g.refusal.number 0) last g.refusal in

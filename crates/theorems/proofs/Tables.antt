@@ -9,8 +9,7 @@ use borrow.Author.Tests.{eqb-true, eqb-false}
 use Rattle.bits.specs.declared.Refusal.{Refusal}
 use Rattle.bits.specs.Refusals.{start}
 use Rattle.grid.specs.declared.Frame.{Frame}
-use Rattle.grid.specs.declared.Grid.{Grid}
-use Rattle.grid.specs.Measured.{grid_of}
+use Rattle.grid.specs.Measured.{Measured, grid_of}
 use Rattle.order.specs.Order.{checked}
 use Rattle.order.specs.Tables.{inverse_of}
 use Rattle.order.specs.Sums.{sum_to}
@@ -31,7 +30,7 @@ use Rattle.theorems.proofs.Orders.{order_sum}
 pub second_accepted : (s : List ℕ) (f : Frame) (place : ℕ) (lent : List ℕ) (t : Tables) (toc : Toc) → (second_reading s f place lent t).answer ≡ Table toc
     → Accepted s f t toc (second_reading s f place lent t) × ((second_reading s f place lent t).order ≡ lent)
 second_accepted s f place lent t toc e =
-    let g : Grid = grid_of f in
+    let g : Measured = grid_of f in
     let r : Refusal = judged s g place t in
     let bad : Refusal = checked g.sections lent in
     split (eqb r.number 0)

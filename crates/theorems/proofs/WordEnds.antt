@@ -24,7 +24,7 @@ use Rattle.grid.specs.Groups.{judge, sampled, rect_for, lf_index_of, index_for, 
 use Rattle.header.specs.declared.Facts.{Facts}
 use Rattle.header.specs.Blending.{words}
 use Rattle.header.specs.Entry.{bad_facts, judged, stands, HeaderTold, answered}
-use Rattle.order.specs.declared.SectionAnswer.{SectionAnswer}
+use Rattle.order.specs.Numbers.{SectionAnswer}
 use Rattle.order.proofs.Entries.{split}
 use Rattle.sections.specs.Kinds.{section_of_kind, kind_of}
 use Rattle.sections.specs.Kinds as kinds

@@ -5,17 +5,13 @@ use Rattle.bits.specs.declared.Refusal.{Refusal}
 use Rattle.bits.specs.declared.Cursor.{Cursor}
 use Rattle.bits.specs.Refusals.{refusal, clear}
 use Rattle.bits.specs.Bits.{bit_count}
-use Rattle.grid.specs.declared.Grid.{Grid}
-use Rattle.grid.specs.declared.Number.{Number}
-use Rattle.grid.specs.declared.Size.{Size}
-use Rattle.grid.specs.declared.Placed.{Placed}
-use Rattle.grid.specs.declared.Touches.{Touches}
+use Rattle.grid.specs.Measured.{Measured}
+use Rattle.grid.specs.Groups.{Touches, Placed, Sized, Number}
 use Rattle.header.specs.Record.{HeaderNumbers}
-use Rattle.order.specs.declared.SentAnswer.{SentAnswer}
-use Rattle.order.specs.declared.SectionAnswer.{SectionAnswer}
-use Rattle.sections.specs.declared.SectionPlace.{SectionPlace}
+use Rattle.order.specs.Numbers.{SentAnswer, SectionAnswer}
+use Rattle.sections.specs.Lookups.{PlaceAnswer}
 use Rattle.sections.specs.Kinds.{KindTold}
-use Rattle.layout.specs.declared.LayoutAnswer.{LayoutAnswer}
+use Rattle.layout.specs.Layouts.{LayoutAnswer}
 use Rattle.toc.specs.declared.TocRead.{TocRead}
 use Rattle.toc.specs.declared.TocRead.TheVariants.{Table, OrderNeeded, Refused}
 use Rattle.toc.specs.Reading.{Tables}
@@ -58,10 +54,10 @@ TouchEnds numbers t = Ends numbers 0 t.refusal false t.value
 abbrev pub RectEnds : List ℕ → Placed → Type 0
 RectEnds numbers p = Ends numbers 0 p.refusal (0 ∷ 0 ∷ 0 ∷ 0 ∷ []) (p.rect.left ∷ p.rect.top ∷ p.rect.width ∷ p.rect.height ∷ [])
 
-abbrev pub SizeEnds : List ℕ → Size → Type 0
+abbrev pub SizeEnds : List ℕ → Sized → Type 0
 SizeEnds numbers z = Ends numbers 0 z.refusal (0 ∷ 0 ∷ []) (z.width ∷ z.height ∷ [])
 
-abbrev pub GridEnds : List ℕ → Grid → Type 0
+abbrev pub GridEnds : List ℕ → Measured → Type 0
 GridEnds numbers g =
     Ends numbers 0 g.refusal (0 ∷ 0 ∷ 0 ∷ 0 ∷ 0 ∷ 0 ∷ 0 ∷ 0 ∷ 0 ∷ 0 ∷ 0 ∷ [])
     (g.width ∷ g.height ∷ g.side ∷ g.lf_side
@@ -76,7 +72,7 @@ SentEnds numbers a = Ends numbers 0 a.refusal 0 a.sent.0
 abbrev pub KindEnds : List ℕ → KindTold → Type 0
 KindEnds numbers a = Ends numbers 0 a.refusal (0 ∷ 0 ∷ 0 ∷ []) (a.numbers.kind ∷ a.numbers.pass_idx ∷ a.numbers.group_idx ∷ [])
 
-abbrev pub PlaceEnds : List ℕ → SectionPlace → Type 0
+abbrev pub PlaceEnds : List ℕ → PlaceAnswer → Type 0
 PlaceEnds numbers a = Ends numbers 0 a.refusal (0 ∷ 0 ∷ []) (a.offset ∷ a.size ∷ [])
 
 abbrev pub LayoutEnds : List ℕ → LayoutAnswer → Type 0
