@@ -10,8 +10,7 @@ use Rattle.bits.specs.Codec.{bool, field}
 use Rattle.bits.specs.Table.{Out, read}
 use Rattle.bits.proofs.Reading.{picked, read_within_end, field_within}
 use Rattle.grid.specs.declared.Frame.{Frame}
-use Rattle.grid.specs.declared.Grid.{Grid}
-use Rattle.grid.specs.Measured.{grid_of}
+use Rattle.grid.specs.Measured.{Measured, grid_of}
 use Rattle.order.specs.Order.{is_order, checked}
 use Rattle.order.specs.Tables.{tabulate, identity}
 use Rattle.order.proofs.Entries.{split}
@@ -146,7 +145,7 @@ place_within s place h k = omega arith
 pub first_accepted : (s : List ℕ) (f : Frame) (place : ℕ) (t : Tables) (toc : Toc) → (first_reading s f place t).answer ≡ Table toc
     → Accepted s f t toc (first_reading s f place t) × ((first_reading s f place t).order ≡ identity toc.count)
 first_accepted s f place t toc e =
-    let g : Grid = grid_of f in
+    let g : Measured = grid_of f in
     let r : Refusal = judged s g place t in
     split (eqb r.number 0)
     (λ z'.
@@ -180,7 +179,7 @@ module _ (s : List ℕ) (f : Frame) (place : ℕ) (t : Tables) where
   pub first_telling : Telling (first_reading s f place t).answer
   unfolding first_reading first_read refused_read
   first_telling =
-      let g : Grid = grid_of f in
+      let g : Measured = grid_of f in
       let r : Refusal = judged s g place t in
       let out : Out Sent = read (toc_rows g.sections) s (start place) in
       picked (λ (q : Reading). Telling q.answer) (eqb r.number 0) (first_read g.sections out) (refused_read r)
@@ -193,7 +192,7 @@ module _ (s : List ℕ) (f : Frame) (place : ℕ) (t : Tables) where
   pub second_telling : (lent : List ℕ) → Telling (second_reading s f place lent t).answer
   unfolding second_reading second_read refused_read judged_order
   second_telling lent =
-      let g : Grid = grid_of f in
+      let g : Measured = grid_of f in
       let r : Refusal = judged_order s g place lent t in
       let first : Refusal = judged s g place t in
       let out : Out (List ℕ) = read (size_rows g.sections) s (start place) in

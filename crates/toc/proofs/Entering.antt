@@ -3,13 +3,14 @@ use Rattle.std.proofs.Common.{◌≡◌, ℕ, ◌/◌, ◌≤◌, Bool, true, fa
 use Rattle.bits.specs.declared.Refusal.{Refusal}
 use Rattle.bits.specs.declared.Cursor.{Cursor}
 use Rattle.bits.specs.declared.Field.{Field}
-use Rattle.bits.specs.Refusals.{pick, start}
+use Rattle.std.specs.Prelude.{Err}
+use Rattle.bits.specs.Refusals.{pick, start, answered}
+use Rattle.bits.proofs.Answered.{answered_err}
 use Rattle.bits.specs.Codec.{bool, field}
 use Rattle.bits.specs.Table.{Table as Rows, Out, ends, read, bind, within}
 use Rattle.bits.proofs.Tables.{read_bind, read_within}
 use Rattle.grid.specs.declared.Frame.{Frame}
-use Rattle.grid.specs.declared.Grid.{Grid}
-use Rattle.grid.specs.Measured.{grid_of}
+use Rattle.grid.specs.Measured.{Measured, grid_in, grid_of}
 use Rattle.order.specs.Order.{is_order, checked}
 use Rattle.order.specs.Tables.{tabulate, identity, inverse_of, filled}
 use Rattle.order.specs.Private.{placed, placed_by}
@@ -141,7 +142,7 @@ module _ (s : List ℕ) (c : Cursor) (count : ℕ) (l : List ℕ) (w : Walk) (ew
 
 -- ---- the entries
 
-module _ (s : List ℕ) (f : Frame) (place : ℕ) (t : Tables) (g : Grid) (m : g ≡ grid_of f) (room : Bool) (eroom : room ≡ roomy g.sections t) (r : Refusal)
+module _ (s : List ℕ) (f : Frame) (place : ℕ) (t : Tables) (g : Measured) (m : g ≡ grid_of f) (room : Bool) (eroom : room ≡ roomy g.sections t) (r : Refusal)
     (er : r ≡ judged_by s g place room)
   where
     judged_is : r ≡ judged s (grid_of f) place t
@@ -200,6 +201,18 @@ module _ (s : List ℕ) (f : Frame) (place : ℕ) (t : Tables) (g : Grid) (m : g
           → sized_reading s b g.sections lent ≡ second_reading s f place lent t
       unfolding second_reading sized_reading
       second_is h b eb = rw (← second_judged lent bad e z, eq-eqb bad.number 0 h, ← m, ← eb)
+
+-- an entry that is refused before it reads
+module _ (s : List ℕ) (f : Frame) (place : ℕ) (t : Tables) (r : Refusal) (e : Err r ≡ answered (judged s (grid_of f) place t) (grid_in (grid_of f))) where
+  pub first_err : Done (first_reading s f place t) t (Refused r) t.offsets t.sizes t.order t.inverse
+  first_err =
+      let w = answered_err (judged s (grid_of f) place t) r (grid_in (grid_of f)) (sym e) in
+      rw (← w.1) (first_refused s f place t (grid_of f) refl _ refl (judged s (grid_of f) place t) refl w.0)
+
+  pub second_err : (lent : List ℕ) → Done (second_reading s f place lent t) t (Refused r) t.offsets t.sizes t.order t.inverse
+  second_err lent =
+      let w = answered_err (judged s (grid_of f) place t) r (grid_in (grid_of f)) (sym e) in
+      rw (← w.1) (second_refused s f place t (grid_of f) refl _ refl (judged s (grid_of f) place t) refl lent w.0)
 
 -- the orders that the entries write
 module _ (lent : List ℕ) (count : ℕ) (order inverse p i : List ℕ) where

@@ -5,8 +5,7 @@ use Rattle.bits.specs.declared.Cursor.{Cursor}
 use Rattle.bits.specs.Refusals.{pick, refusal, none, start, clear}
 use Rattle.bits.specs.Table.{Out, read}
 use Rattle.grid.specs.declared.Frame.{Frame}
-use Rattle.grid.specs.declared.Grid.{Grid}
-use Rattle.grid.specs.Measured.{grid_of}
+use Rattle.grid.specs.Measured.{Measured, grid_of}
 use Rattle.order.specs.Order.{checked}
 use Rattle.order.specs.Tables.{filled, identity, inverse_of}
 use Rattle.toc.specs.declared.Toc.{Toc}
@@ -32,7 +31,7 @@ abbrev pub roomy : ℕ → Tables → Bool
 roomy count t = room_for count (length t.offsets) (length t.sizes) (length t.order) (length t.inverse)
 
 -- before anything is read: 2, 8, 9, 10, 3, 11, all with place 0
-unfoldable pub judged_by : List ℕ → Grid → ℕ → Bool → Refusal
+unfoldable pub judged_by : List ℕ → Measured → ℕ → Bool → Refusal
 judged_by s g place room =
     pick (nat_lt 16777216 (length s))
     (refusal 2 0)
@@ -42,11 +41,11 @@ judged_by s g place room =
     (refusal 3 0))
     g.refusal)
 
-abbrev pub judged : List ℕ → Grid → ℕ → Tables → Refusal
+abbrev pub judged : List ℕ → Measured → ℕ → Tables → Refusal
 judged s g place t = judged_by s g place (roomy g.sections t)
 
 -- then 13 for the lent order
-unfoldable pub judged_order : List ℕ → Grid → ℕ → List ℕ → Tables → Refusal
+unfoldable pub judged_order : List ℕ → Measured → ℕ → List ℕ → Tables → Refusal
 judged_order s g place lent t =
     pick ((judged s g place t).number == 0) (checked g.sections lent) (judged s g place t)
 

@@ -66,10 +66,9 @@ pub fn invert(order: &[u32], count: u32, inverse: &mut [u32]) -> bits::Refusal
     if inverse.len() < count as usize {
         return bits::refused(3, 0);
     }
-    let refusal = order::check_order(order, count);
-    if refusal.number != 0 {
+    if let Err(refusal) = order::check_order(order, count) {
         return refusal;
     }
     inverse_into(order, count, inverse);
-    refusal
+    bits::accepted()
 }

@@ -3,6 +3,8 @@
 ghost use Rattle.std.specs.Prelude.{◌≡◌, ◌+◌, ◌<◌, ◌≤◌, true, false, length, take};
 ghost use Rattle.toc.specs.Reading.{Done, tables, room_for, judged_by, first_reading, second_reading};
 ghost use Rattle.toc.specs.Private.{sized_reading, summed, walked, size_at, offset_at, seen_size, Two, Room, order_by};
+ghost use Rattle.bits.specs.Refusals.{answered};
+ghost use Rattle.grid.specs.Measured.{grid_of, grid_in};
 ghost use Rattle.bits.specs.Codec.{u32, chosen, field};
 ghost use Rattle.order.specs.Order.{is_order};
 ghost use Rattle.order.specs.Private.{placed_by};
@@ -23,25 +25,30 @@ fn has_room(count: u32, offsets: usize, sizes: usize, order: usize, inverse: usi
     bits::both(words, orders)
 }
 
-// What is refused before anything is read: 2, 8, 9, 10, 3, 11.
-fn judge_place(s: &[u8], g: Grid, place: u64, room: bool) -> Refusal
-    ensures { result ≡ judged_by s.now g place room }
+// What is refused before anything is read: 2, 8, 9, 10, 3, 11; else the frame's grid.
+fn judge_place(
+    s: &[u8],
+    f: Frame,
+    place: u64,
+    offsets: usize,
+    sizes: usize,
+    order: usize,
+    inverse: usize,
+) -> Result<Grid, Refusal>
+    ensures { result ≡ answered (judged_by s.now (grid_of f) place (room_for (grid_of f).sections offsets sizes order inverse)) (grid_in (grid_of f)) }
 {
     if 16777216 < s.len() {
-        return bits::refused(2, 0);
+        return Err(bits::refused(2, 0));
     }
-    let own = g.refusal;
-    if own.number != 0 {
-        return own;
-    }
-    if !room {
-        return bits::refused(3, 0);
+    let g = grid::measure(f)?;
+    if !has_room(g.sections, offsets, sizes, order, inverse) {
+        return Err(bits::refused(3, 0));
     }
     let end = 8 * s.len() as u64;
     if end < place {
-        return bits::refused(11, 0);
+        return Err(bits::refused(11, 0));
     }
-    bits::accepted()
+    Ok(g)
 }
 
 // What the walk that judges comes to: the cursor after the first padding, the one after the last, and the sum of the sizes.
@@ -269,19 +276,20 @@ pub fn read_toc(
         (tables offsets.old sizes.old order.old inverse.old)
         result offsets.new sizes.new order.new inverse.new }
 {
-    let g = grid::measure(f);
-    let count = g.sections;
-    let room = has_room(
-        count,
+    let judged = judge_place(
+        s,
+        f,
+        place,
         offsets.len(),
         sizes.len(),
         order.len(),
         inverse.len(),
     );
-    let refusal = judge_place(s, g, place, room);
-    if refusal.number != 0 {
-        return TocRead::Refused(refusal);
-    }
+    let g = match judged {
+        Ok(g) => g,
+        Err(refusal) => return TocRead::Refused(refusal),
+    };
+    let count = g.sections;
     let flag = bits::read_bool(s, bits::begin(place));
     let next = flag.next;
     if flag.value != 0 {
@@ -306,21 +314,21 @@ pub fn read_toc_with_order(
         (tables offsets.old sizes.old order.old inverse.old)
         result offsets.new sizes.new order.new inverse.new }
 {
-    let g = grid::measure(f);
-    let count = g.sections;
-    let room = has_room(
-        count,
+    let judged = judge_place(
+        s,
+        f,
+        place,
         offsets.len(),
         sizes.len(),
         order.len(),
         inverse.len(),
     );
-    let refusal = judge_place(s, g, place, room);
-    if refusal.number != 0 {
-        return TocRead::Refused(refusal);
-    }
-    let bad = order::check_order(lent, count);
-    if bad.number != 0 {
+    let g = match judged {
+        Ok(g) => g,
+        Err(refusal) => return TocRead::Refused(refusal),
+    };
+    let count = g.sections;
+    if let Err(bad) = order::check_order(lent, count) {
         return TocRead::Refused(bad);
     }
     read_sizes(

@@ -1,5 +1,8 @@
 -- `invert`: the refusals in their order, then the sections placed one by one.
 use Rattle.order.proofs.Inverting.{invert_many, invert_short, invert_bad, invert_done}
+use Rattle.bits.proofs.Answered.{answered_err}
+use Rattle.std.proofs.Common.{refl, sym, ◌∙◌}
+use Rattle.order.proofs.Checked.{check_passed}
 use Rattle.toc.proofs.orders.invert.Goals as goal
 
 pub returns-then-count-gt65536 : goal.returns-then-count-gt65536
@@ -12,13 +15,14 @@ returns-then-inverse-count c =
     let a = c.args in
     invert_short _ a.order.now a.inverse.now _ c.refused-then-inverse-count.ensures c.if-count-gt65536.false c.if-inverse-count.true
 
-pub returns-then-refusal-ne0 : goal.returns-then-refusal-ne0
-returns-then-refusal-ne0 c =
+pub returns-in-Err : goal.returns-in-Err
+returns-in-Err c =
     let a = c.args in
-    invert_bad _ a.order.now a.inverse.now _ c.check_order-refusal.ensures c.if-count-gt65536.false c.if-inverse-count.false c.if-refusal-ne0.true
+    let w = answered_err _ _ (tt {0}) (sym c.in-Err.ensures) in
+    rw (← w.1) (invert_bad _ a.order.now a.inverse.now _ refl c.if-count-gt65536.false c.if-inverse-count.false w.0)
 
 pub returns : goal.returns
 returns c =
     let a = c.args in
-    invert_done _ a.order.now a.inverse.now _ _ c.check_order-refusal.ensures c.if-count-gt65536.false c.if-inverse-count.false c.if-refusal-ne0.false
+    invert_done _ a.order.now a.inverse.now _ _ (c.accepted.ensures ∙ check_passed _ a.order.now _ c.in_default.ensures) c.if-count-gt65536.false c.if-inverse-count.false (rw c.accepted.ensures refl)
     c.inverse_into.ensures

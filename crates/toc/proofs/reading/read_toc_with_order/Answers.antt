@@ -1,30 +1,34 @@
 -- `read_toc_with_order`: one law for each way out.
 use Rattle.toc.specs.Reading.{tables}
-use Rattle.toc.proofs.Entering.{roomed, second_refused, second_bad, second_is, lent_order}
+use Rattle.toc.proofs.Entering.{roomed, second_err, second_bad, second_is, lent_order}
+use Rattle.toc.proofs.Judging.{place_ok}
+use Rattle.bits.proofs.Answered.{answered_ok, answered_err}
+use Rattle.std.proofs.Common.{refl, sym}
 use Rattle.toc.proofs.reading.read_toc_with_order.Goals as goal
 
-pub returns-then-refusal-ne0 : goal.returns-then-refusal-ne0
-returns-then-refusal-ne0 c =
+pub returns-in-Err : goal.returns-in-Err
+returns-in-Err c =
     let a = c.args in
     let t = tables a.offsets.now a.sizes.now a.order.now a.inverse.now in
-    second_refused a.s.now a.f a.place t _ c.measure-g.ensures _ c.has_room-room.ensures _ c.judge_place-refusal.ensures a.lent.now c.if-refusal-ne0.true
+    second_err a.s.now a.f a.place t _ c.in-Err.ensures a.lent.now
 
-pub returns-then-bad-ne0 : goal.returns-then-bad-ne0
-returns-then-bad-ne0 c =
+pub returns-in-Err-check_order : goal.returns-in-Err-check_order
+returns-in-Err-check_order c =
     let a = c.args in
     let t = tables a.offsets.now a.sizes.now a.order.now a.inverse.now in
-    second_bad a.s.now a.f a.place t _ c.measure-g.ensures _ c.has_room-room.ensures _ c.judge_place-refusal.ensures c.if-refusal-ne0.false a.lent.now _ c.check_order-bad.ensures c.if-bad-ne0.true
+    let w = answered_err _ _ (tt {0}) (sym c.in-Err-check_order.ensures) in
+    rw (← w.1) (second_bad a.s.now a.f a.place t _ (place_ok a.s.now a.f a.place t _ c.in-Ok.ensures).0 _ refl _ refl (place_ok a.s.now a.f a.place t _ c.in-Ok.ensures).1 a.lent.now _ refl w.0)
 
 pub read_sizes-requires : goal.read_sizes-requires
 read_sizes-requires c =
     let a = c.args in
     let t = tables a.offsets.now a.sizes.now a.order.now a.inverse.now in (
-      lent_order a.s.now a.f a.place t _ c.measure-g.ensures _ c.has_room-room.ensures _ c.judge_place-refusal.ensures c.if-refusal-ne0.false a.lent.now _ c.check_order-bad.ensures c.if-bad-ne0.false,
-      roomed a.s.now a.f a.place t _ c.measure-g.ensures _ c.has_room-room.ensures _ c.judge_place-refusal.ensures c.if-refusal-ne0.false,
+      lent_order a.s.now a.f a.place t _ (place_ok a.s.now a.f a.place t _ c.in-Ok.ensures).0 _ refl _ refl (place_ok a.s.now a.f a.place t _ c.in-Ok.ensures).1 a.lent.now _ refl (answered_ok _ (tt {0}) _ (sym c.in_default.ensures)).0,
+      roomed a.s.now a.f a.place t _ (place_ok a.s.now a.f a.place t _ c.in-Ok.ensures).0 _ refl _ refl (place_ok a.s.now a.f a.place t _ c.in-Ok.ensures).1,
     )
 
 pub returns : goal.returns
 returns c =
     let a = c.args in
     let t = tables a.offsets.now a.sizes.now a.order.now a.inverse.now in
-    rw (second_is a.s.now a.f a.place t _ c.measure-g.ensures _ c.has_room-room.ensures _ c.judge_place-refusal.ensures c.if-refusal-ne0.false a.lent.now _ c.check_order-bad.ensures c.if-bad-ne0.false _ c.begin.ensures) at c.read_sizes.ensures
+    rw (second_is a.s.now a.f a.place t _ (place_ok a.s.now a.f a.place t _ c.in-Ok.ensures).0 _ refl _ refl (place_ok a.s.now a.f a.place t _ c.in-Ok.ensures).1 a.lent.now _ refl (answered_ok _ (tt {0}) _ (sym c.in_default.ensures)).0 _ c.begin.ensures) at c.read_sizes.ensures
