@@ -6,33 +6,81 @@ use mathlib.Core.Path.{◌≡◌, refl, sym, ◌∙◌, ap}
 use mathlib.Core.List.{List}
 use lib.ListN.{get_or}
 use borrow.Author.Tests.{eq-eqb, ne_eqb}
+use mathlib.Core.Bool.{Bool, true, false}
+use lib.Dec.{ltb}
+use Rattle.std.specs.Prelude.{Ok, Err}
+use Rattle.bits.specs.declared.Refusal.{Refusal}
+use Rattle.bits.specs.Refusals.{pick}
+use Rattle.bits.proofs.Answered.{answered_ok, answered_err}
 use Rattle.grid.specs.declared.Frame.{Frame}
 use Rattle.grid.specs.declared.Grid.{Grid}
 use Rattle.grid.specs.declared.Rect.{Rect}
-use Rattle.grid.specs.declared.Number.{Number}
-use Rattle.grid.specs.declared.Placed.{Placed}
-use Rattle.grid.specs.Measured.{grid_of}
-use Rattle.grid.specs.Groups.{told, rect_for}
+use Rattle.grid.specs.Measured.{Measured, grid_of, grid_or_refused, good_record, zero_size, too_many, laid, refused_grid}
+use Rattle.grid.specs.Groups.{judge, has, placed, rect_for, rect_or_refused}
+use Rattle.grid.proofs.Answered.{measured_ok, measured_err}
 use Rattle.order.specs.Sums.{sum_to}
 use Rattle.sections.specs.declared.KindNumbers.{KindNumbers}
-use Rattle.sections.specs.declared.KindAnswer.{KindAnswer}
-use Rattle.sections.specs.Kinds.{numbers_of, kind_of, kind_told, KindTold}
+use Rattle.sections.specs.declared.TocGroupKind.{TocGroupKind}
+use Rattle.sections.specs.declared.TocGroupKind.TheVariants.{All}
+use Rattle.sections.specs.Kinds.{numbers_of, kind_of, kind_or_refused}
 use Rattle.listing.specs.declared.rows.Row.{Row}
-use Rattle.listing.specs.Listed.{rect_by, row_at}
+use Rattle.listing.specs.Listed.{rect_by, row_at, kind_numbers}
 
-pub whole_is : (g : Grid) (w h : Number) → w ≡ told g g.width → h ≡ told g g.height
-    → ◌≡◌ {A = Rect} (record { left = 0; top = 0; width = w.value; height = h.value }) (record { left = 0; top = 0; width = g.width; height = g.height })
-whole_is g w h p q = rw (p, q)
+-- what stands beside a frame's refusal
+zero_by : (a z m : Bool) (l : Measured) → l.refusal.number ≡ 0 → ((pick a (pick z (refused_grid 9) (pick m (refused_grid 10) l)) (refused_grid 8)).refusal.number ≡ 0 → ⊥)
+    → ((pick a (pick z (refused_grid 9) (pick m (refused_grid 10) l)) (refused_grid 8)).width ≡ 0) × ((pick a (pick z (refused_grid 9) (pick m (refused_grid 10) l)) (refused_grid 8)).height ≡ 0)
+unfolding refused_grid
+zero_by true true m l e h = (refl, refl)
+zero_by true false true l e h = (refl, refl)
+zero_by true false false l e h = absurd (h e)
+zero_by false t m l e h = (refl, refl)
+
+grid_zero : (f : Frame) → ((grid_of f).refusal.number ≡ 0 → ⊥) → ((grid_of f).width ≡ 0) × ((grid_of f).height ≡ 0)
+unfolding grid_of laid
+grid_zero f h = zero_by (good_record f) (zero_size f) (too_many f) (laid f) refl h
+
+pub whole_none : (f : Frame) (r : Refusal) → Err r ≡ grid_or_refused (grid_of f) → (a : Rect) → a ≡ record { left = 0; top = 0; width = 0; height = 0 }
+    → a ≡ record { left = 0; top = 0; width = (grid_of f).width; height = (grid_of f).height }
+whole_none f r e a ea =
+    let w = grid_zero f (measured_err f r e).0 in
+    ea ∙ rw (w.0, w.1)
+
+pub whole_is : (f : Frame) (g : Grid) → Ok g ≡ grid_or_refused (grid_of f)
+    → ◌≡◌ {A = Rect} (record { left = 0; top = 0; width = g.width; height = g.height }) (record { left = 0; top = 0; width = (grid_of f).width; height = (grid_of f).height })
+whole_is f g e = rw (← measured_ok f g e)
+
+-- a kind's numbers
+pub kind_is : (f : Frame) (i : ℕ) (kind : TocGroupKind) → Ok (numbers_of kind) ≡ kind_or_refused (kind_of f (record { 0 = i })) → numbers_of kind ≡ kind_numbers f i
+kind_is f i kind e = sym (answered_ok _ _ (numbers_of kind) (sym e)).1
+
+pub kind_none : (f : Frame) (i : ℕ) (r : Refusal) → Err r ≡ kind_or_refused (kind_of f (record { 0 = i })) → numbers_of All ≡ kind_numbers f i
+unfolding kind_of
+kind_none f i r e = rw (ne_eqb (judge (grid_of f) (ltb i (grid_of f).sections)).number 0 (answered_err _ r _ (sym e)).0)
 
 -- the rectangle of a kind, by its number
-module _ (g : Grid) (k : KindNumbers) where
-  pub rect_lf : (p : Placed) → p ≡ rect_for g g.lf_side k.group_idx → k.kind ≡ 2 → p.rect ≡ rect_by g k
-  unfolding rect_by
-  rect_lf p e h = rw (e, eq-eqb k.kind 2 h)
+module _ (g : Measured) (k : KindNumbers) where
+  rect_is : (side : ℕ) (a : Rect) → Ok a ≡ rect_or_refused (rect_for g side k.group_idx) → a ≡ (rect_for g side k.group_idx).rect
+  rect_is side a e = sym (answered_ok _ _ a (sym e)).1
 
-  pub rect_group : (p : Placed) → p ≡ rect_for g g.side k.group_idx → (k.kind ≡ 2 → ⊥) → k.kind ≡ 4 → p.rect ≡ rect_by g k
+  rect_beside : (side : ℕ) (r : Refusal) → Err r ≡ rect_or_refused (rect_for g side k.group_idx) → record { left = 0; top = 0; width = 0; height = 0 } ≡ (rect_for g side k.group_idx).rect
+  unfolding rect_for placed
+  rect_beside side r e = rw (ne_eqb (judge g (has g side k.group_idx)).number 0 (answered_err _ r _ (sym e)).0)
+
+  pub rect_lf : (a : Rect) → Ok a ≡ rect_or_refused (rect_for g g.lf_side k.group_idx) → k.kind ≡ 2 → a ≡ rect_by g k
   unfolding rect_by
-  rect_group p e n h = rw (e, ne_eqb k.kind 2 n, eq-eqb k.kind 4 h)
+  rect_lf a e h = rect_is g.lf_side a e ∙ rw (eq-eqb k.kind 2 h)
+
+  pub rect_no_lf : (r : Refusal) → Err r ≡ rect_or_refused (rect_for g g.lf_side k.group_idx) → k.kind ≡ 2 → record { left = 0; top = 0; width = 0; height = 0 } ≡ rect_by g k
+  unfolding rect_by
+  rect_no_lf r e h = rect_beside g.lf_side r e ∙ rw (eq-eqb k.kind 2 h)
+
+  pub rect_group : (a : Rect) → Ok a ≡ rect_or_refused (rect_for g g.side k.group_idx) → (k.kind ≡ 2 → ⊥) → k.kind ≡ 4 → a ≡ rect_by g k
+  unfolding rect_by
+  rect_group a e n h = rect_is g.side a e ∙ rw (ne_eqb k.kind 2 n, eq-eqb k.kind 4 h)
+
+  pub rect_no_group : (r : Refusal) → Err r ≡ rect_or_refused (rect_for g g.side k.group_idx) → (k.kind ≡ 2 → ⊥) → k.kind ≡ 4 → record { left = 0; top = 0; width = 0; height = 0 } ≡ rect_by g k
+  unfolding rect_by
+  rect_no_group r e n h = rect_beside g.side r e ∙ rw (ne_eqb k.kind 2 n, eq-eqb k.kind 4 h)
 
   pub rect_all : (r : Rect) → r ≡ record { left = 0; top = 0; width = g.width; height = g.height } → (k.kind ≡ 2 → ⊥) → (k.kind ≡ 4 → ⊥) → k.kind ≡ 0 → r ≡ rect_by g k
   unfolding rect_by
@@ -43,8 +91,8 @@ module _ (g : Grid) (k : KindNumbers) where
   rect_none n m l = rw (ne_eqb k.kind 2 n, ne_eqb k.kind 4 m, ne_eqb k.kind 0 l)
 
 -- a section's line
-pub row_is : (f : Frame) (offsets sizes order : List ℕ) (i : ℕ) (a : KindAnswer) (k : KindNumbers) (r : Rect) (sent offset size : ℕ)
-    → kind_told a ≡ kind_of f (record { 0 = i }) → k ≡ numbers_of a.kind → r ≡ rect_by (grid_of f) k → sent ≡ get_or order i 0 → offset ≡ get_or offsets i 0 → size ≡ get_or sizes i 0
+pub row_is : (f : Frame) (offsets sizes order : List ℕ) (i : ℕ) (k : KindNumbers) (r : Rect) (sent offset size : ℕ)
+    → k ≡ kind_numbers f i → r ≡ rect_by (grid_of f) k → sent ≡ get_or order i 0 → offset ≡ get_or offsets i 0 → size ≡ get_or sizes i 0
     → ◌≡◌ {A = Row}
     (record {
       section = i;
@@ -58,9 +106,7 @@ pub row_is : (f : Frame) (offsets sizes order : List ℕ) (i : ℕ) (a : KindAns
     })
     (row_at f offsets sizes order i)
 unfolding row_at
-row_is f offsets sizes order i a k r sent offset size ea ek er es eo ez =
-    let n : k ≡ (kind_of f (record { 0 = i })).numbers = ek ∙ ap (λ (t : KindTold). t.numbers) ea in
-    rw (er, n, es, eo, ez)
+row_is f offsets sizes order i k r sent offset size n er es eo ez = rw (er, n, es, eo, ez)
 
 -- ---- the sum of the sizes
 

@@ -13,8 +13,7 @@ use borrow.Author.Tests.{eq-eqb, ne_eqb, le-leb, lt-leb, not-true, not-false}
 use Rattle.bits.specs.declared.Refusal.{Refusal}
 use Rattle.bits.specs.Refusals.{pick, refusal, none}
 use Rattle.grid.specs.declared.Frame.{Frame}
-use Rattle.grid.specs.declared.Grid.{Grid}
-use Rattle.grid.specs.Measured.{grid_of}
+use Rattle.grid.specs.Measured.{Measured, grid_of}
 use Rattle.order.specs.Order.{checked, is_order}
 use Rattle.order.specs.Sums.{sum_to}
 use Rattle.listing.specs.declared.TextAnswer.{TextAnswer}
@@ -54,7 +53,7 @@ module _ {l m : List ℕ} {n : ℕ} (text out : List ℕ) (p : Put l 0 text m n)
       texted_yes (fitted text out) text out a (sym (rw (le-leb (length text) (length out) fits))) q ea
 
 -- the listing's refusals in their order
-module _ (f : Frame) (g : Grid) (m : g ≡ grid_of f) (offsets sizes order out : List ℕ) where
+module _ (f : Frame) (g : Measured) (m : g ≡ grid_of f) (offsets sizes order out : List ℕ) where
   listing_own : (g.refusal.number ≡ 0 → ⊥) → g.refusal ≡ listing_refusal f offsets sizes order out
   unfolding listing_refusal
   listing_own h = sym (rw (← m, ne_eqb g.refusal.number 0 h))
@@ -100,7 +99,7 @@ unfolding listing_text
 listing_put count f offsets sizes order total p q e r = then p (then q.0 (named (ap total_text e) r))
 
 -- the ways out of the listing
-module _ (f : Frame) (g : Grid) (m : g ≡ grid_of f) (offsets sizes order out : List ℕ) where
+module _ (f : Frame) (g : Measured) (m : g ≡ grid_of f) (offsets sizes order out : List ℕ) where
   pub write_own : (a : TextAnswer) → (g.refusal.number ≡ 0 → ⊥) → a ≡ record { length = 0; refusal = g.refusal }
       → Texted (listing_refusal f offsets sizes order out) (listing f offsets sizes order) out a out
   write_own a h ea =
@@ -128,7 +127,7 @@ module _ (f : Frame) (g : Grid) (m : g ≡ grid_of f) (offsets sizes order out :
         write_all a y w ea =
             let clear : q ≡ none = e ∙ checked_none g.sections order (sym (ap (λ (x : Refusal). x.number) e) ∙ y) in
             texted_yes (listing_refusal f offsets sizes order out) (listing f offsets sizes order) out a (sym clear ∙ is)
-            (named (ap (λ (x : Grid). listing_text x.sections f offsets sizes order) m) w) ea
+            (named (ap (λ (x : Measured). listing_text x.sections f offsets sizes order) m) w) ea
 
 -- a text that was written lies within the lent bytes
 put_size : (b : Bool) (text out : List ℕ) → length (pick b (sets out 0 text) out) ≡ length out

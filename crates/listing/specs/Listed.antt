@@ -3,9 +3,8 @@ use Rattle.std.specs.Prelude.{ℕ, ◌&&◌, List, ◌++◌, eqb, leb, length, g
 use Rattle.bits.specs.declared.Refusal.{Refusal}
 use Rattle.bits.specs.Refusals.{pick, refusal}
 use Rattle.grid.specs.declared.Frame.{Frame}
-use Rattle.grid.specs.declared.Grid.{Grid}
 use Rattle.grid.specs.declared.Rect.{Rect}
-use Rattle.grid.specs.Measured.{grid_of}
+use Rattle.grid.specs.Measured.{Measured, grid_of}
 use Rattle.grid.specs.Groups.{rect_for}
 use Rattle.order.specs.Order.{checked}
 use Rattle.order.specs.Sums.{sum_to}
@@ -15,7 +14,7 @@ use Rattle.listing.specs.declared.rows.Row.{Row}
 use Rattle.listing.specs.Text.{heading, rows_from, total_text}
 
 -- an LF group's rectangle or a group's, clipped; All has the whole colour sample size; the others have none
-unfoldable pub rect_by : Grid → KindNumbers → Rect
+unfoldable pub rect_by : Measured → KindNumbers → Rect
 rect_by g k =
     pick (eqb k.kind 2)
     (rect_for g g.lf_side k.group_idx).rect

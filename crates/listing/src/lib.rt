@@ -116,11 +116,11 @@ pub fn write_listing(
     ensures { Texted (listing_refusal f offsets.now sizes.now order.now out.old)
         (listing f offsets.now sizes.now order.now) out.old result out.new }
 {
-    let g = grid::measure(f);
-    let own = g.refusal;
-    if own.number != 0 {
-        return refused_text(own);
-    }
+    let measured = grid::measure(f);
+    let g = match measured {
+        Ok(g) => g,
+        Err(own) => return refused_text(own),
+    };
     let n = g.sections as usize;
     let mut nowhere = [0u8; 1];
     let length = put_listing(&mut nowhere, f, g.sections, offsets, sizes, order);
@@ -128,8 +128,7 @@ pub fn write_listing(
     if !bits::both(tables, length <= out.len()) {
         return refused_text(bits::refused(3, 0));
     }
-    let bad = order::check_order(order, g.sections);
-    if bad.number != 0 {
+    if let Err(bad) = order::check_order(order, g.sections) {
         return refused_text(bad);
     }
     whole_text(put_listing(out, f, g.sections, offsets, sizes, order))

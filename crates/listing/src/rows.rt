@@ -4,7 +4,7 @@ ghost use Rattle.grid.specs.Measured.{grid_of};
 ghost use Rattle.order.specs.Sums.{sum_to};
 ghost use Rattle.listing.specs.Private.{Put, shown_by, numbers_in};
 ghost use Rattle.listing.specs.Text.{row_text, rows_from};
-ghost use Rattle.listing.specs.Listed.{rect_by, row_at};
+ghost use Rattle.listing.specs.Listed.{rect_by, row_at, kind_numbers};
 
 use crate::put::{put_columns, put_name, put_number};
 use grid::{Frame, Rect};
@@ -39,35 +39,10 @@ fn long_word(t: &[u64], i: u32) -> u64
     if at < t.len() { t[at] } else { 0 }
 }
 
-// The whole colour sample size.
-fn whole(f: Frame) -> Rect
-    ensures { result ≡ record { left = 0; top = 0; width = (grid_of f).width; height = (grid_of f).height } }
+// No rectangle.
+fn nowhere() -> Rect
+    ensures { result ≡ record { left = 0; top = 0; width = 0; height = 0 } }
 {
-    let width = grid::color_sample_width(f);
-    let height = grid::color_sample_height(f);
-    Rect {
-        left: 0,
-        top: 0,
-        width: width.value,
-        height: height.value,
-    }
-}
-
-// The rectangle of a kind.
-fn rect_of(f: Frame, k: KindNumbers) -> Rect
-    ensures { result ≡ rect_by (grid_of f) k }
-{
-    if k.kind == 2 {
-        let lf = grid::lf_group_rect(f, k.group_idx);
-        return lf.rect;
-    }
-    if k.kind == 4 {
-        let group = grid::group_rect(f, k.group_idx);
-        return group.rect;
-    }
-    if k.kind == 0 {
-        return whole(f);
-    }
     Rect {
         left: 0,
         top: 0,
@@ -76,13 +51,58 @@ fn rect_of(f: Frame, k: KindNumbers) -> Rect
     }
 }
 
+// The whole colour sample size.
+fn whole(f: Frame) -> Rect
+    ensures { result ≡ record { left = 0; top = 0; width = (grid_of f).width; height = (grid_of f).height } }
+{
+    match grid::measure(f) {
+        Ok(g) => Rect {
+            left: 0,
+            top: 0,
+            width: g.width,
+            height: g.height,
+        },
+        Err(_) => nowhere(),
+    }
+}
+
+// The rectangle of a kind.
+fn rect_of(f: Frame, k: KindNumbers) -> Rect
+    ensures { result ≡ rect_by (grid_of f) k }
+{
+    if k.kind == 2 {
+        return match grid::lf_group_rect(f, k.group_idx) {
+            Ok(rect) => rect,
+            Err(_) => nowhere(),
+        };
+    }
+    if k.kind == 4 {
+        return match grid::group_rect(f, k.group_idx) {
+            Ok(rect) => rect,
+            Err(_) => nowhere(),
+        };
+    }
+    if k.kind == 0 {
+        return whole(f);
+    }
+    nowhere()
+}
+
+// The numbers of a section's kind; of one that the frame hasn't, those of All.
+fn kind_at(f: Frame, i: u32) -> KindNumbers
+    ensures { result ≡ kind_numbers f i }
+{
+    match sections::kind_of(f, SectionNumber(i)) {
+        Ok(kind) => KindNumbers::from(kind),
+        Err(_) => KindNumbers::from(sections::TocGroupKind::All),
+    }
+}
+
 // What the listing shows of a section. The frame and the tables are taken as they are: 0 where a table has no such word.
 pub fn row_at(f: Frame, offsets: &[u64], sizes: &[u32], order: &[u32], i: u32) -> Row
     ensures { result ≡ row_at f offsets.now sizes.now order.now i }
 {
-    let answer = sections::kind_of(f, SectionNumber(i));
-    let kind = answer.kind;
-    let k = sections::kind_numbers(kind);
+    let k = kind_at(f, i);
     let rect = rect_of(f, k);
     let sent = word(order, i);
     let offset = long_word(offsets, i);

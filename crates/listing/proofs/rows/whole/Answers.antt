@@ -1,7 +1,9 @@
 -- `whole`: two numbers of the grid.
-use Rattle.grid.specs.Measured.{grid_of}
-use Rattle.listing.proofs.Showing.{whole_is}
+use Rattle.listing.proofs.Showing.{whole_is, whole_none}
 use Rattle.listing.proofs.rows.whole.Goals as goal
 
-pub returns : goal.returns
-returns c = whole_is (grid_of c.args.f) _ _ c.color_sample_width-width.ensures c.color_sample_height-height.ensures
+pub returns-in-Ok : goal.returns-in-Ok
+returns-in-Ok c = whole_is c.args.f _ c.in-Ok.ensures
+
+pub returns-in-Err : goal.returns-in-Err
+returns-in-Err c = whole_none c.args.f _ c.in-Err.ensures _ c.nowhere.ensures
