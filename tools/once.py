@@ -4,7 +4,7 @@
 A promise is looked at as text: for the answer and for the final content of each lent `&mut` it has one equation whose right side speaks of what
 was passed alone (no answer, no final content), so that the law `once` (crates/bits/proofs/Once.antt) gives equality; or it is a record of such
 equations, for which a law named after it (`done_once` for `Done`) stands in some crate's proofs and is proved by `once`. An equation for what an
-answer tells (`kind_told result`) counts as one for the answer where a law named after it says so (`kind_once`). Functions of an input or
+answer tells (`numbers_in result`) counts as one for the answer where a law named after it says so (`numbers_in_once`). Functions of an input or
 an output are counted apart: no clause fixes whether a reader or a writer fails. Prints what it found, every function for which none holds, and every
 function that docs/PROMISES.md doesn't name.
 """
@@ -86,7 +86,8 @@ def main():
             for c in conjuncts(promise):
                 left, _, right = (x.strip() for x in c.partition('≡'))
                 if right and not re.search(r'\.new\b|(?<![\w.])result(?!\w)', right):
-                    tells = re.fullmatch(r'(\w+)_told result', left)
+                    tells = re.fullmatch(r'(\w+?)(?:_told)? result', left)
+                    left = 'result' if left == 'result.now' else left
                     if tells and re.search(rf'^pub {tells.group(1)}_once :', laws, re.M):
                         left = 'result'
                     found.add(strip(left))

@@ -6,7 +6,6 @@ use lib.Dec.{eqb}
 use Rattle.std.specs.Prelude.{Result, Ok, Err, true, false}
 use lib.Ieee.{Float}
 use lib.IntN.{ℤ}
-use Rattle.std.specs.Prelude.{Result}
 use Rattle.bits.specs.declared.Refusal.{Refusal}
 use Rattle.bits.specs.Refusals.{pick}
 use Rattle.bits.proofs.Once.{once}
@@ -25,15 +24,16 @@ use Rattle.types.specs.declared.BlendMode.TheVariants.{Replace, Add, Blend, MulA
 use Rattle.types.specs.Types.{frame_type_number, encoding_number, blend_mode_number}
 use Rattle.grid.specs.declared.Frame.{Frame}
 use Rattle.order.specs.declared.SectionNumber.{SectionNumber}
-use Rattle.sections.specs.Kinds.{KindAnswer, KindTold, kind_told, kind_of}
+use Rattle.sections.specs.declared.TocGroupKind.{TocGroupKind}
+use Rattle.sections.specs.Kinds.{KindAnswer, KindTold, kind_told, kind_of, numbers_of as kind_numbers_of, numbers_in, kind_or_refused}
 use Rattle.toc.specs.declared.TocRead.{TocRead}
 use Rattle.toc.specs.Reading.{Tables, Reading, first_reading, second_reading, Done}
 use Rattle.toc.proofs.Accepted.{Telling, same_answer, first_telling, second_telling}
 use Rattle.theorems.proofs.KindsBack.{same_kind}
 use Rattle.listing.specs.Put.{Texted}
-use Rattle.c_words.specs.Answers.{Answer, Given}
+use Rattle.c_words.specs.Answers.{Answer, Given, Handed}
 use Rattle.c_words.specs.Contents.{Listed}
-use Rattle.c_words.specs.Heading.{Buffers, HandedOut, HeadRead}
+use Rattle.c_words.specs.Heading.{Buffers, HandedOut, HandedBy, HeadRead}
 
 -- ---- enums, whose promises name their numbers
 
@@ -123,6 +123,17 @@ kind_once f section x y p q =
     let same : x.kind ≡ y.kind = same_kind x.kind y.kind (ap (λ (t : KindTold). t.numbers) e) in
     λ i. record { kind = same i; refusal = (e i).refusal }
 
+-- the same as it is answered: the kind or the refusal, told whole by the kind's numbers
+same_answered : (x y : Result TocGroupKind Refusal) → numbers_in x ≡ numbers_in y → x ≡ y
+same_answered (Ok x) (Ok y) e = let same : kind_numbers_of x ≡ kind_numbers_of y = cc in ap Ok (same_kind x y same)
+same_answered (Err x) (Err y) e = let same : x ≡ y = cc in ap Err same
+same_answered (Ok x) (Err y) e = absurd cc
+same_answered (Err x) (Ok y) e = absurd cc
+
+pub numbers_in_once : (f : Frame) (section : SectionNumber) (x y : Result TocGroupKind Refusal)
+    → numbers_in x ≡ kind_or_refused (kind_of f section) → numbers_in y ≡ kind_or_refused (kind_of f section) → x ≡ y
+numbers_in_once f section x y p q = same_answered x y (once p q)
+
 -- both section entries, whose answers are told whole
 pub done_once : (r : Reading) → Telling r.answer → (before : Tables) (x y : TocRead) (o s p i o' s' p' i' : List ℕ) → Done r before x o s p i → Done r before y o' s' p' i'
     → (x ≡ y) × (o ≡ o') × (s ≡ s') × (p ≡ p') × (i ≡ i')
@@ -147,6 +158,9 @@ texted_once r text before x y u v p q = (once p.answer q.answer, once p.bytes q.
 pub given_once : (a : Answer) (before : List ℕ) (x y : ℕ) (u v : List ℕ) → Given a before x u → Given a before y v → (x ≡ y) × (u ≡ v)
 given_once a before x y u v p q = (once p.status q.status, once p.words q.words)
 
+pub handed_once : (n : ℕ) (a : Result (List ℕ) Refusal) (before : List ℕ) (x y : ℕ) (u v : List ℕ) → Handed n a before x u → Handed n a before y v → (x ≡ y) × (u ≡ v)
+handed_once n a before x y u v p q = (once p.status q.status, once p.words q.words)
+
 pub listed_once : (r : Reading) (before : Tables) (x y : ℕ) (o s p i w o' s' p' i' w' out : List ℕ)
     → Listed r before x o s p i out w → Listed r before y o' s' p' i' out w'
     → (x ≡ y) × (o ≡ o') × (s ≡ s') × (p ≡ p') × (i ≡ i') × (w ≡ w')
@@ -156,6 +170,11 @@ listed_once r before x y o s p i w o' s' p' i' w' out d e =
 pub handedout_once : (a : HeaderTold) (x y : ℕ) (w w₁ w₂ : List ℕ) (i i₁ i₂ : List ℤ) (f f₁ f₂ : List Float)
     → HandedOut a x w w₁ i i₁ f f₁ → HandedOut a y w w₂ i i₂ f f₂ → (x ≡ y) × (w₁ ≡ w₂) × (i₁ ≡ i₂) × (f₁ ≡ f₂)
 handedout_once a x y w w₁ w₂ i i₁ i₂ f f₁ f₂ p q =
+    (once p.status q.status, once p.numbers q.numbers, once p.signs q.signs, once p.reals q.reals)
+
+pub handedby_once : (a : HeaderTold) (x y : ℕ) (w w₁ w₂ : List ℕ) (i i₁ i₂ : List ℤ) (f f₁ f₂ : List Float)
+    → HandedBy a x w w₁ i i₁ f f₁ → HandedBy a y w w₂ i i₂ f f₂ → (x ≡ y) × (w₁ ≡ w₂) × (i₁ ≡ i₂) × (f₁ ≡ f₂)
+handedby_once a x y w w₁ w₂ i i₁ i₂ f f₁ f₂ p q =
     (once p.status q.status, once p.numbers q.numbers, once p.signs q.signs, once p.reals q.reals)
 
 pub headread_once : (f : Facts) (s : List ℕ) (x y : ℕ) (before u v : Buffers) → HeadRead f s x before u → HeadRead f s y before v
