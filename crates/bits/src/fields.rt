@@ -33,13 +33,14 @@ pub fn read_bits_if(s: &[u8], c: Cursor, on: bool, n: u32, default: u32) -> Read
     }
 }
 
+// A public name of its own, as `read_bool` is; the same reading, asked for.
 pub fn read_bits(s: &[u8], c: Cursor, n: u32) -> Read<u32>
     ensures { result ≡ field s.now true (u n) 0 c }
 {
     read_bits_if(s, c, true, n, 0)
 }
 
-// A Bool, as 0 or 1, where it is asked for.
+// A Bool, as 0 or 1, where it is asked for. A number, no bool: the promise is for a default of any number.
 pub fn read_bool_if(s: &[u8], c: Cursor, on: bool, default: u32) -> Read<u32>
     ensures { result ≡ field s.now on bool default c }
 {

@@ -18,14 +18,17 @@ pub use pieces::{Piece, bit_count, cut, cut_at, reaches, refused_at, stop, stop_
 pub use view::{Seen, View, see, see_choice};
 pub use window::{Ahead, look_ahead, low_bits};
 
-// Why something was refused, and at which bit. Number 0: nothing was.
+// Why something was refused, and at which bit. Number 0: nothing was. A number, no enum: vectors of replay_bits and replay_filter hand faults of any
+// number in, and C's status word has it (`status_of`).
 #[derive(Clone, Copy, Debug, PartialEq, Eq)]
 pub struct Refusal {
     pub number: u32,
     pub place: u64,
 }
 
-// A bit place, and the first fault on the way to it.
+// A bit place, and the first fault on the way to it. It keeps its fault, no `Result`: `field s on k d c` says of each field what it hands on of a
+// cursor with a fault of any number, and the vectors of replay_bits and replay_filter hand such cursors in. The bytes and the cursor stay two
+// parameters: so public functions of bits, numbers and filter take them, and a cursor in a struct goes through memory (`kept`).
 #[derive(Clone, Copy)]
 pub struct Cursor {
     pub at: u64,
@@ -46,7 +49,7 @@ pub struct Choice {
     pub bits: u32,
 }
 
-// The four choices of a U32, by its selector.
+// The four choices of a U32, by its selector. Four fields, no array: so `chosen` and `one_of` of specs/Codec.antt name them.
 #[derive(Clone, Copy)]
 pub struct Choices {
     pub d0: Choice,
@@ -55,7 +58,7 @@ pub struct Choices {
     pub d3: Choice,
 }
 
-// A number of bits in two halves: high * 2^64 + low.
+// A number of bits in two halves: high * 2^64 + low. No u128: `whole` and the theorem on `skip_bits_if` are over the halves.
 #[derive(Clone, Copy)]
 pub struct Sum {
     pub high: u64,
@@ -83,7 +86,7 @@ pub fn begin(place: u64) -> Cursor
     Cursor { at: place, fault }
 }
 
-// A cursor as it is, put together again: where a field is passed by nothing is copied through memory.
+// A cursor as it is, put together again: where a field is passed by nothing is copied through memory (a whole copy is slower: docs/PERFORMANCE.md).
 pub fn kept(c: Cursor) -> Cursor
     ensures { result ≡ c }
 {
@@ -128,7 +131,7 @@ pub fn refuse_if(c: Cursor, bad: bool, number: u32, back: u64) -> Cursor
     Cursor { at, fault }
 }
 
-// `&&` and `||` by the names that they have had here.
+// `&&` and `||` by the names that they have had here: public functions, which may not go.
 pub fn both(a: bool, b: bool) -> bool
     ensures { result ≡ (a && b) }
 {

@@ -2,7 +2,8 @@
 ghost use Rattle.std.specs.Prelude.{◌≡◌, ◌+◌, ◌-◌, ◌*◌, ◌/◌, ◌%◌, ◌^◌, ◌<◌, ◌≤◌, min, length};
 ghost use Rattle.bits.specs.Bits.{bits_at, ahead};
 
-// The 56 bits from a place on, zero behind the end, and whether the eight bytes that hold them may be read: then each of the 56 is there.
+// The 56 bits from a place on, zero behind the end, and whether the eight bytes that hold them may be read: then each of the 56 is there. No Option:
+// the bits are used near the end too, where `whole` is false.
 #[derive(Clone, Copy)]
 pub struct Ahead {
     pub bits: u64,

@@ -22,7 +22,7 @@ fn is_early(number: u32) -> bool
     first || later
 }
 
-// 3 in its turn, where the lent words are too short.
+// 3 in its turn, where the lent words are too short; over the number, since the status word is (`roomed r short`).
 fn with_room(r: Refusal, short: bool) -> Refusal
     ensures { result ≡ roomed r short }
 {

@@ -31,7 +31,7 @@ pub fn give_layout(answer: Result<Layout, Refusal>, out: &mut [u64]) -> u64
     }
 }
 
-// The lowest 32 bits of a word.
+// The lowest 32 bits of a word: `as` alone would have to be in range.
 fn low(word: u64) -> u32
     ensures { result ≡ word % 4294967296 }
 {

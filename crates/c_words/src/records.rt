@@ -11,7 +11,7 @@ use grid::{Frame, Grid, Rect};
 use order::{SectionNumber, SentNumber};
 use sections::{KindNumbers, SectionPlace, TocGroupKind};
 
-// A frame out of its six numbers.
+// A frame out of its six numbers, as C hands them.
 pub fn frame(
     width: u32,
     height: u32,
@@ -145,7 +145,7 @@ pub fn give_place(answer: Result<SectionPlace, Refusal>, out: &mut [u64]) -> u64
     }
 }
 
-// The kind that three numbers name; an unknown number names none.
+// The kind that three numbers name, as C hands them; an unknown number names none, and `kind_named` of specs/Records.antt gives All for it.
 fn kind_named(kind: u32, pass_idx: u32, group_idx: u32) -> TocGroupKind
     ensures { result ≡ kind_named kind pass_idx group_idx }
 {

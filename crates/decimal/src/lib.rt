@@ -51,7 +51,7 @@ fn fits(v: u64, d: u64, limit: u64) -> bool
     v <= (limit - d) / 10
 }
 
-// Reads a whole text as a number of at most limit: digits alone, no zero in front of others, no text left over.
+// Not `parse`, which takes a sign and zeros in front: what is written has to read back. Reads a whole text as a number of at most limit: digits alone, no zero in front of others, no text left over.
 pub fn read_number(s: &[u8], limit: u64) -> Option<u64>
     ensures { result ≡ told (parsed limit s.now) }
 {
@@ -110,7 +110,7 @@ fn glyph(d: u64) -> u8
     b'0' + d as u8
 }
 
-// A number's decimal digits.
+// A number's decimal digits, by hand: the promise is of each byte (`digits_of`), and there is no writer here.
 pub fn write_number(n: u64) -> Digits
     ensures { result ≡ digits_of n }
 {

@@ -5,7 +5,7 @@
 ghost use Rattle.std.specs.Prelude.{◌≡◌, min, set};
 ghost use Rattle.std.proofs.lemmas.List.Edits.{sets};
 
-// The lesser of two lengths: the library's method by the name that it has had here.
+// The lesser of two lengths: the library's method by the name that it has had here, a public function that may not go.
 pub fn least(a: usize, b: usize) -> usize
     ensures { result ≡ min a b }
 {

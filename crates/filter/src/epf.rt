@@ -10,6 +10,7 @@ use crate::settings::{
 };
 use bits::{Cursor, Read};
 
+// A disabled filter has values too, +0.0 (`epf_disabled`; C hands all out), so no Option.
 #[derive(Clone, Copy)]
 pub struct EdgePreservingFilter {
     pub enabled: bool,

@@ -6,7 +6,7 @@ ghost use Rattle.filter.specs.Gabor.{gabor_default, gabor_disabled, gabor_of, ch
 use crate::weights::is_unbalanced;
 use bits::{Cursor, Read};
 
-// Channel by channel, two weights each.
+// Channel by channel, two weights each, as C hands them out. A disabled filter has values too, +0.0 (`gabor_disabled`), so no Option.
 #[derive(Clone, Copy)]
 pub struct Gabor {
     pub enabled: bool,
@@ -44,7 +44,7 @@ pub fn gabor_disabled() -> Gabor
     }
 }
 
-// Disabled, default or custom, as the two Bools say.
+// Disabled, default or custom, as the two Bools say: the numbers that were sent, as `gabor_of` of specs/Gabor.antt has them.
 fn gabor_of(enabled: u32, own: u32, x: Channel, y: Channel, z: Channel) -> Gabor
     ensures { result ≡ gabor_of enabled own x y z }
 {

@@ -60,7 +60,7 @@ pub fn read_restoration_filter_if(
     }
 }
 
-// Both filters disabled: what stands beside a refusal.
+// Both filters disabled: in the definitions they stand beside a refusal.
 pub fn disabled_filter() -> RestorationFilter
     ensures { result ≡ filter_disabled }
 {

@@ -62,16 +62,11 @@ pub fn sigma_default() -> EpfSigma
     }
 }
 
-fn sharp_of(own: bool, values: [f32; 8]) -> [f32; 8]
-    ensures { result ≡ pick own values sharp_default }
+// A group's own values, or the usual ones.
+fn chosen<T: Copy>(own: bool, values: T, usual: T) -> T
+    ensures { result ≡ pick own values usual }
 {
-    if own { values } else { sharp_default() }
-}
-
-fn scale_of(own: bool, values: [f32; 3]) -> [f32; 3]
-    ensures { result ≡ pick own values scale_default }
-{
-    if own { values } else { scale_default() }
+    if own { values } else { usual }
 }
 
 // Custom sigma values; in a Modular frame quant_mul stays the default.
@@ -91,7 +86,7 @@ fn sigma_of(own: bool, modular: bool, q: f32, a: f32, b: f32, d: f32) -> EpfSigm
     }
 }
 
-// The sharpness values.
+// The sharpness values. Written out: eight reads and the array that they make, against a loop with its invariant and a cursor, which is no plainer.
 pub fn read_sharp_if(s: &[u8], c: Cursor, on: bool) -> Read<[f32; 8]>
     ensures { result ≡ read (sharp on) s.now c }
 {
@@ -108,7 +103,7 @@ pub fn read_sharp_if(s: &[u8], c: Cursor, on: bool) -> Read<[f32; 8]>
     let values = [
         x0.value, x1.value, x2.value, x3.value, x4.value, x5.value, x6.value, x7.value,
     ];
-    let value = sharp_of(own, values);
+    let value = chosen(own, values, sharp_default());
     let next = x7.next;
     Read { value, next }
 }
@@ -124,7 +119,7 @@ pub fn read_scale_if(s: &[u8], c: Cursor, on: bool) -> Read<[f32; 3]>
     let x2 = read_float_if(s, x1.next, own, 0);
     let ignored = bits::read_bits_if(s, x2.next, own, 32, 0);
     let values = [x0.value, x1.value, x2.value];
-    let value = scale_of(own, values);
+    let value = chosen(own, values, scale_default());
     let next = ignored.next;
     Read { value, next }
 }

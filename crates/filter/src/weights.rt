@@ -16,7 +16,7 @@ fn size(h: u32) -> u64
     }
 }
 
-// What a weight adds to the sum above zero.
+// What a weight adds to the sum above zero. Two functions, no sign as a parameter: it would only be compared with the bit again.
 fn part_above(h: u32) -> u64
     ensures { result ≡ above h }
 {

@@ -166,6 +166,7 @@ fn sampled(f: Frame, n: u32, upsampling: u32) -> Result<u32, Refusal>
     Ok(sample(n, upsampling, f.lf_level))
 }
 
+// From here on group and LF group, width and height: public names that each promise their own; what they share is `sampled`, `rect_for`, `touch_for`.
 // The frame's width in samples, for an upsampling that may be any number.
 pub fn sample_width(f: Frame, upsampling: u32) -> Result<u32, Refusal>
     ensures { result ≡ number_or_refused (sampled f f.width upsampling) }

@@ -33,7 +33,8 @@ pub struct Blending {
     pub source: u32,
 }
 
-// Which mode decides on `source`: the bundle's own, or one that is given.
+// Which mode decides on `source`: the bundle's own, or one that is given. No Option: `blending .. d` and `has_source d` of specs/Blending.antt are over
+// this record, as over the numbers and Bools beside it.
 #[derive(Clone, Copy)]
 pub struct Decider {
     pub own: bool,
@@ -142,7 +143,8 @@ fn read_blending_fields(
 }
 
 // The bundle, where it is asked for; extra says whether there are extra channels. It takes twelve bits at most, so that one look ahead
-// holds it; near the input's end, and for a mode that is none, it is read field by field.
+// holds it; near the input's end, and for a mode that is none, it is read field by field (that
+// alone is slower: docs/PERFORMANCE.md, header, rich).
 pub fn read_blending_if(
     s: &[u8],
     c: Cursor,
@@ -187,7 +189,7 @@ pub fn read_blending_if(
     read_blending_fields(s, c, on, extra, full, d)
 }
 
-// The bundles of n extra channels, four words each.
+// The bundles of n extra channels, four words each, as C has them.
 pub fn read_extra_blending(
     s: &[u8],
     c: Cursor,

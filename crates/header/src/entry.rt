@@ -33,6 +33,7 @@ fn color_channels(f: Facts, o: Opening) -> u32
     if coded && plain { 1 } else { 3 }
 }
 
+// No TryFrom: a mode is known to be one here, and the record has no number that names none.
 fn blending_info(b: Blending) -> BlendingInfo
     requires { b.mode < 5 }
     ensures { info_numbers result ≡ blending_of b }
@@ -215,6 +216,7 @@ pub fn read_frame_header(
     if all.value == 1 {
         return give_default(s, all.next, f, upsampling, blending);
     }
+    // Kept for up to eight channels: no heap.
     let mut ups = [0u32; 8];
     let a = read_front(s, f, &mut ups);
     let front = a.value;

@@ -35,7 +35,7 @@ pub struct Facts {
 }
 
 // The header's record: what the Rust's struct keeps, computed fields too; the name, the extra channels' upsampling and their blending are in the lent
-// buffers.
+// buffers (no heap).
 #[derive(Clone, Copy)]
 pub struct FrameHeader {
     pub frame_type: FrameType,

@@ -25,6 +25,7 @@ pub struct Front {
     pub placement: Placement,
 }
 
+// Not `Read<Front>`: the cursors at which the extra channels' words begin are kept too.
 #[derive(Clone, Copy)]
 pub struct FrontRead {
     pub value: Front,

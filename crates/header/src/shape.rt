@@ -9,6 +9,7 @@ use crate::opening::{Opening, UPSAMPLINGS};
 use bits::{Choice, Choices, Cursor, Read, read_bits_if, read_bool_if};
 use numbers::read_u32_if;
 
+// Arrays of the most there can be: no heap, and C hands all their words out (12 to 32).
 #[derive(Clone, Copy)]
 pub struct Passes {
     pub num_passes: u32,

@@ -30,7 +30,7 @@ fn list_table(
     listing::write_listing(f, offsets, sizes, &order[..n], out)
 }
 
-// From the section table on: four tables of 1,024 words, so that more sections are 3.
+// From the section table on: four tables of 1,024 words (no heap), so that more sections are 3.
 fn list_sections(s: &[u8], f: Frame, place: u64, out: &mut [u8]) -> Result<usize, Refusal>
     ensures { Texted (fitted (sections_text s.now f place) out.old) (sections_text s.now f place) out.old result out.new }
 {

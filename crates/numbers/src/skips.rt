@@ -55,6 +55,7 @@ pub fn read_extensions_if(s: &[u8], c: Cursor, on: bool) -> Cursor
     let mut mask = m.value;
     let mut at = kept(m.next);
     let mut sum = Sum { high: 0, low: 0 };
+    // While bits are left: nothing is counted, and a `for` over 64 would go on where none is left.
     while mask != 0 {
         let n = read_u64_if(s, at, mask % 2 == 1, 0);
         sum = add_bits(sum, n.value);

@@ -81,6 +81,7 @@ fn look(table: &[u32], count: u32, index: u32) -> Result<u32, Refusal>
     Ok(table[i])
 }
 
+// Two public names over one `look`: the types keep section and sent numbers apart.
 // From a section number to its sent number, through the order: 10, 13, then 14 where the frame has no such section.
 pub fn sent_of(order: &[u32], count: u32, section: SectionNumber) -> Result<SentNumber, Refusal>
     ensures { result ≡ sent_or_refused (sent_of order.now count section) }

@@ -19,7 +19,7 @@ pub struct Output<W = BufWriter<Stdout>> {
     failed: io::Result<()>,
 }
 
-// The refusal of an answer, or none.
+// The refusal of an answer, or none: the lines show a number 0 where nothing is refused.
 pub fn refusal_of<T: Copy>(answer: Result<T, Refusal>) -> Refusal
     ensures { result ≡ refusal_in answer }
 {

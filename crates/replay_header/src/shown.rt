@@ -7,6 +7,7 @@ use types::{BlendMode, Encoding, FrameFlags, FrameType};
 
 // A refused header is shown as one whose numbers are all 0.
 pub fn answer(out: &mut Output, a: Result<HeaderRead, Refusal>) {
+    let full = a.is_ok();
     let (refusal, end, h) = match a {
         Ok(read) => (bits::accepted(), read.end, read.header),
         Err(refusal) => (refusal, 0, zero_header()),
@@ -15,7 +16,7 @@ pub fn answer(out: &mut Output, a: Result<HeaderRead, Refusal>) {
     out.show(end);
     let mut all = Tally {
         big: true,
-        full: refusal.number == 0,
+        full,
         sum: 0,
     };
     opening(out, &mut all, h);
@@ -123,15 +124,17 @@ fn filters(out: &mut Output, all: &mut Tally, v: RestorationFilter) {
 }
 
 pub fn questions(out: &mut Output, n: u32, bits: u64) {
-    let t = type_of(n);
-    let m = mode_of(n);
+    // The cases by number, the last one for any other.
+    let t = FrameType::try_from(n).unwrap_or(FrameType::SkipProgressive);
+    let e = Encoding::try_from(n).unwrap_or(Encoding::Modular);
+    let m = BlendMode::try_from(n).unwrap_or(BlendMode::Mul);
     let seven = [
-        t as u32,
+        u32::from(t),
         u32::from(t.is_normal_frame()),
         u32::from(t.is_lf_frame()),
         u32::from(t.is_progressive_frame()),
-        encoding_of(n) as u32,
-        m as u32,
+        u32::from(e),
+        u32::from(m),
         u32::from(m.use_alpha()),
     ];
     let mut all = Tally {
@@ -143,33 +146,6 @@ pub fn questions(out: &mut Output, n: u32, bits: u64) {
     flags(out, &mut all, FrameFlags(bits));
     out.decimal(all.sum);
     out.end();
-}
-
-// The cases by number, the last one for any other.
-fn type_of(n: u32) -> FrameType {
-    match n {
-        0 => FrameType::RegularFrame,
-        1 => FrameType::LfFrame,
-        2 => FrameType::ReferenceOnly,
-        _ => FrameType::SkipProgressive,
-    }
-}
-
-fn encoding_of(n: u32) -> Encoding {
-    match n {
-        0 => Encoding::VarDct,
-        _ => Encoding::Modular,
-    }
-}
-
-fn mode_of(n: u32) -> BlendMode {
-    match n {
-        0 => BlendMode::Replace,
-        1 => BlendMode::Add,
-        2 => BlendMode::Blend,
-        3 => BlendMode::MulAdd,
-        _ => BlendMode::Mul,
-    }
 }
 
 fn zero_header() -> FrameHeader {

@@ -122,6 +122,7 @@ fn find(out: &mut Output, r: &[u8], f: Frame) {
     section(out, sections::section_of_sample(f, x, y, pass));
 }
 
+// Numbers over 4 are a GroupPass here, as the vectors have it.
 fn kind(k: u32, pass_idx: u32, group_idx: u32) -> TocGroupKind {
     match k {
         0 => TocGroupKind::All,

@@ -50,6 +50,7 @@ impl From<TocGroupKind> for KindNumbers {
     }
 }
 
+// `From` by its older name, a public function that may not go.
 pub fn kind_numbers(kind: TocGroupKind) -> KindNumbers
     ensures { result ≡ numbers_of kind }
 {

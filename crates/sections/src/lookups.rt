@@ -22,7 +22,7 @@ fn judge_section(g: Grid, offsets: usize, sizes: usize, i: u32) -> Result<(), Re
     found(i < g.sections)
 }
 
-// A section's offset and size, out of tables that an entry filled.
+// A section's offset and size, out of tables that an entry filled; two beside each other, as C lends them.
 pub fn section_at(
     f: Frame,
     offsets: &[u64],

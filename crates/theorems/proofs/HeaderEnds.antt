@@ -128,6 +128,10 @@ module _ (f : Facts) (s : List ℕ) (before : Refusal) (own : Refuses of_facts 0
       (refused_header (refusal_of before (stands f s)))
       (refuses_none of_header (bit_count s) refl) first
 
+  pub answered_given : (answered f before (stands f s)).given ≡ eqb (answered f before (stands f s)).refusal.number 0
+  unfolding answered refused_header
+  answered_given = split (eqb (refusal_of before (stands f s)).number 0) (λ t. rw t refl) (λ t. rw t (sym t))
+
   module _ (some : (answered f before (stands f s)).refusal.number ≡ 0 → ⊥) where
     pub stopped : eqb (refusal_of before (stands f s)).number 0 ≡ false
     unfolding answered
@@ -142,14 +146,16 @@ module _ (f : Facts) (s : List ℕ) (before : Refusal) (own : Refuses of_facts 0
 
 pub read_frame_header : (f : Facts) (s : List ℕ) (r : Result HeaderRead Refusal) (name name' upsampling upsampling' blending blending' : List ℕ)
     → Headed f s r name name' upsampling upsampling' blending blending'
-    → Ends of_header (bit_count s) (told r).refusal (header_said zero_header 0 name upsampling blending)
+    → ((told r).given ≡ eqb (told r).refusal.number 0) × Ends of_header (bit_count s) (told r).refusal (header_said zero_header 0 name upsampling blending)
     (header_said (told r).header (told r).end name' upsampling' blending')
 unfolding refused_header
 read_frame_header f s r name name' upsampling upsampling' blending blending' h =
     let before : Refusal = judged (length s) f (length name) (length upsampling) (length blending) in
     let own = judge_header (length s) f (length name) (length upsampling) (length blending) in
     let is : (told r).refusal ≡ (answered f before (stands f s)).refusal = ap (λ (a : HeaderTold). a.refusal) h.answer in
-    record {
+    let given : (told r).given ≡ eqb (told r).refusal.number 0 =
+    ap (λ (a : HeaderTold). a.given) h.answer ∙ answered_given f s before own ∙ sym (ap (λ (a : HeaderTold). eqb a.refusal.number 0) h.answer) in
+    (given, record {
       refuses = rw is (answered_refuses f s before own);
       either =
           λ some'.
@@ -161,4 +167,4 @@ read_frame_header f s r name name' upsampling upsampling' blending blending' h =
           let u : upsampling' ≡ upsampling = h.upsampled ∙ buffer_kept f s before own some (stands f s).value.upsampling upsampling in
           let b : blending' ≡ blending = h.blended ∙ buffer_kept f s before own some (words (stands f s).value.blending) blending in
           rw (head, end, n, u, b);
-    }
+    })

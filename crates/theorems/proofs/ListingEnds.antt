@@ -1,7 +1,8 @@
 -- Texts: 3 where one doesn't fit; a table's listing 8, 9, 10, 3, 13. Refused, the length is 0 and the lent bytes are as they were.
 use Prim.Native.Nat.{ℕ}
 use native.Mathlib.Omega.{arith}
-use mathlib.Core.Path.{◌≡◌, refl}
+use mathlib.Core.Path.{◌≡◌, refl, ◌∙◌, ap}
+use borrow.Author.Tests.{eqb-false}
 use mathlib.Core.List.{List}
 use mathlib.Core.Bool.{Bool, ◌&&◌}
 use lib.Dec.{eqb, leb}
@@ -29,11 +30,13 @@ texted l r text before a after d h =
     split (eqb r.number 0)
     (λ e.
     let is : a ≡ Ok (length text) = rw e at h.answer in
-    rw is (record { refuses = refuses_none l 0 d.ruled; either = λ some. absurd (some refl) }))
+    rw is (λ r' e' z. cc, record { refuses = refuses_none l 0 d.ruled; either = λ some. absurd (some refl) }))
     (λ e.
     let is : a ≡ Err r = rw e at h.answer in
     let same : after ≡ before = rw e at h.bytes in
-    rw (is, same) (record { refuses = d; either = λ some. refl }))
+    let none : (r' : Refusal) → a ≡ Err r' → r'.number ≡ 0 → ⊥ =
+    λ r' e' z. let one : r ≡ r' = cc in eqb-false r.number 0 e (ap (λ (x : Refusal). x.number) one ∙ z) in
+    (none, rw (is, same) (record { refuses = d; either = λ some. refl })))
 
 pub fits : (text out : List ℕ) → Refuses of_text 0 (fitted text out)
 fits text out =

@@ -88,7 +88,7 @@ pub record EveryFunction : Type 0 where
   pub judge_header : (n : ℕ) (f : Facts) (name upsampling blending : ℕ) → Refuses of_facts 0 (judged n f name upsampling blending)
   pub read_frame_header : (f : Facts) (s : List ℕ) (r : Result HeaderRead Refusal) (name name' upsampling upsampling' blending blending' : List ℕ)
       → Headed f s r name name' upsampling upsampling' blending blending'
-      → Ends of_header (bit_count s) (header_told r).refusal (header_said zero_header 0 name upsampling blending)
+      → ((header_told r).given ≡ eqb (header_told r).refusal.number 0) × Ends of_header (bit_count s) (header_told r).refusal (header_said zero_header 0 name upsampling blending)
       (header_said (header_told r).header (header_told r).end name' upsampling' blending')
   -- texts; `list_frame` with any text
   pub write_refused : (r : Refusal) (before : List ℕ) (a : Result ℕ Refusal) (after : List ℕ)

@@ -112,7 +112,7 @@ pub record TextSaid : Type 0 where
 
 abbrev pub TextEnds : List ℕ → Result ℕ Refusal → List ℕ → List ℕ → Type 0
 TextEnds numbers a before after =
-    Ends {A = TextSaid} numbers 0 (refusal_in a) (record { length = 0; bytes = before }) (record { length = said_in 0 a; bytes = after })
+    ((r : Refusal) → a ≡ Err r → r.number ≡ 0 → ⊥) × Ends {A = TextSaid} numbers 0 (refusal_in a) (record { length = 0; bytes = before }) (record { length = said_in 0 a; bytes = after })
 
 -- The section entries answer a table, or "order needed" where no order is lent, or a refusal, which has a number; only a table changes what was lent.
 abbrev pub Tells : {A : Type 0} → List ℕ → Bool → ℕ → A → A → TocRead → Type 0

@@ -11,7 +11,7 @@ pub use orders::invert;
 pub use reading::{read_toc, read_toc_with_order};
 
 // What an accepted table answers: how many sections, the data start (the Rust's `bookmark`) and the sum of the sizes.
-#[derive(Clone, Copy)]
+#[derive(Clone, Copy, Debug, PartialEq, Eq)]
 pub struct Toc {
     pub count: u32,
     pub bookmark: u64,
@@ -19,7 +19,7 @@ pub struct Toc {
 }
 
 // What reading a table comes to: a table, "order needed" with the place after the flag, or a refusal.
-#[derive(Clone, Copy)]
+#[derive(Clone, Copy, Debug, PartialEq, Eq)]
 pub enum TocRead {
     Table(Toc),
     OrderNeeded(u64),

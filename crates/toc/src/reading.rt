@@ -15,6 +15,7 @@ use crate::{Toc, TocRead};
 use bits::{Choice, Cursor, Read, Refusal, Seen, View};
 use grid::{Frame, Grid};
 
+// Four slices, no struct of them: C lends four, and here only `read_sizes` hands all four on.
 // Whether each of four tables has a word for each section.
 fn has_room(count: u32, offsets: usize, sizes: usize, order: usize, inverse: usize) -> bool
     ensures { result ≡ room_for count offsets sizes order inverse }
@@ -59,7 +60,8 @@ struct Walk {
     total: u64,
 }
 
-// One size: U32(u(10), 1024 + u(14), 17408 + u(22), 4211712 + u(30)).
+// One size, by hand beside `see_size`: sizes two at once are faster, and widths out of a table in memory slower (docs/PERFORMANCE.md).
+// U32(u(10), 1024 + u(14), 17408 + u(22), 4211712 + u(30)).
 fn read_size(s: &[u8], c: Cursor) -> Read<u32>
     ensures { result ≡ field s.now true (u32 size_choices) 0 c }
 {
