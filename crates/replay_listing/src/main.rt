@@ -4,7 +4,7 @@
 // were 7, and then the text.
 #![tactic(auto)]
 
-use replay::Output;
+use replay::{BYTES, Output, refusal_of};
 use std::io;
 use std::io::Stdin;
 
@@ -22,35 +22,24 @@ fn main(rt: HostRuntime) -> io::Result<()> {
 }
 
 fn record(from: &mut Stdin, lines: &mut Output, r: &[u8]) -> io::Result<()> {
-    let mut input = replay::bytes(0);
-    let mut out = replay::bytes(7);
-    let m = replay::room_bytes(&out, replay::word(r, 8));
-    run(from, lines, r, &mut input, &mut out[..m])
-}
-
-fn run(
-    from: &mut Stdin,
-    lines: &mut Output,
-    r: &[u8],
-    input: &mut [u8],
-    out: &mut [u8],
-) -> io::Result<()> {
-    let given = replay::room_bytes(input, replay::word(r, 4));
+    let mut input: [u8; BYTES] = replay::table(0);
+    let mut out: [u8; BYTES] = replay::table(7);
+    let [n, given, m, _] = replay::four(r, 0);
+    let given = replay::room(&input, given);
     input::read_full(from, &mut input[..given])?;
-    let n = replay::room_bytes(input, replay::word(r, 0));
-    work(lines, &input[..n], out);
+    let n = replay::room(&input, n);
+    let m = replay::room(&out, m);
+    work(lines, &input[..n], &mut out[..m]);
     Ok(())
 }
 
 fn work(lines: &mut Output, s: &[u8], out: &mut [u8]) {
-    let (length, refusal) = match listing_job::list_frame(s, out) {
-        Ok(length) => (length, bits::accepted()),
-        Err(refusal) => (0, refusal),
-    };
-    replay::show(lines, length as u64);
-    replay::refusal(lines, refusal);
-    let n = length.min(out.len());
-    replay::show(lines, replay::sum_bytes(false, 0, &out[n..]));
-    replay::end(lines);
-    lines.text(&out[0..n]);
+    let answer = listing_job::list_frame(s, out);
+    let length = answer.unwrap_or(0);
+    lines.show(length as u64);
+    lines.refusal(refusal_of(answer));
+    let (text, behind) = out.split_at(length.min(out.len()));
+    lines.show(replay::sum(false, 0, behind));
+    lines.end();
+    lines.text(text);
 }
