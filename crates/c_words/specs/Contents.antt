@@ -5,19 +5,17 @@ use Rattle.bits.specs.declared.Refusal.{Refusal}
 use Rattle.bits.specs.Refusals.{pick, refusal}
 use Rattle.grid.specs.declared.Frame.{Frame}
 use Rattle.grid.specs.Measured.{grid_of}
-use Rattle.toc.specs.declared.TocRead.{TocRead}
-use Rattle.toc.specs.declared.TocRead.TheVariants.{Table, OrderNeeded, Refused}
-use Rattle.toc.specs.Reading.{Tables, Reading, refused_read, after}
+use Rattle.toc.specs.Reading.{TocAnswer, Table, OrderNeeded, Refused, Tables, Reading, refused_read, after}
 use Rattle.c_words.specs.Status.{status_of}
 
 -- 0 for a table, 255 for "order needed" with the place after the flag, else the refusal
-abbrev pub toc_status : TocRead → ℕ
+abbrev pub toc_status : TocAnswer → ℕ
 toc_status (Table toc) = 0
 toc_status (OrderNeeded place) = place % 2 ^ 56 * 256 + 255
 toc_status (Refused r) = status_of r
 
 -- count, data start, total, written for a table alone
-abbrev pub toc_after : TocRead → List ℕ → List ℕ
+abbrev pub toc_after : TocAnswer → List ℕ → List ℕ
 toc_after (Table toc) out = sets out 0 (toc.count ∷ toc.bookmark ∷ toc.total_byte_size ∷ [])
 toc_after (OrderNeeded place) out = out
 toc_after (Refused r) out = out

@@ -1,5 +1,6 @@
 // What the section entries come to: the status of what was read, and a table's three words.
 ghost use Rattle.std.specs.Prelude.{◌≡◌};
+ghost use Rattle.toc.specs.Reading.{toc_told};
 ghost use Rattle.c_words.specs.Contents.{no_room, toc_status, toc_after};
 
 use crate::answers::status;
@@ -21,16 +22,16 @@ pub fn no_room(n: usize, f: Frame) -> Refusal
 }
 
 // A table's three numbers as words, and the status of what was read.
-pub fn give_toc(t: TocRead, out: &mut [u64]) -> u64
-    ensures { (result ≡ toc_status t) × (out.new ≡ toc_after t out.old) }
+pub fn give_toc(t: Result<TocRead, Refusal>, out: &mut [u64]) -> u64
+    ensures { (result ≡ toc_status (toc_told t)) × (out.new ≡ toc_after (toc_told t) out.old) }
 {
     match t {
-        TocRead::Table(toc) => {
+        Ok(TocRead::Table(toc)) => {
             let words = [toc.count as u64, toc.bookmark, toc.total_byte_size];
             fill::fill(out, 0, &words);
             0
         }
-        TocRead::OrderNeeded(place) => (place % 72057594037927936) * 256 + 255,
-        TocRead::Refused(r) => status(r),
+        Ok(TocRead::OrderNeeded(place)) => (place % 72057594037927936) * 256 + 255,
+        Err(r) => status(r),
     }
 }

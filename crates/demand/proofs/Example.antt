@@ -38,9 +38,8 @@ use Rattle.order.specs.Numbers.{sent_of, entry_at, looked_up}
 use Rattle.sections.specs.Kinds.{section_number, section_answer}
 use Rattle.sections.specs.Lookups.{sample_kind, has_sample, section_of_sample, place_refusal, place_by, place_of, sent_of_section}
 use Rattle.toc.specs.declared.Toc.{Toc}
-use Rattle.toc.specs.declared.TocRead.TheVariants.{Table}
 use Rattle.toc.specs.Sizes.{toc_rows, size_rows, sent_before, offsets_by, sizes_by}
-use Rattle.toc.specs.Reading.{Tables, tables, Reading, room_for, judged_by, judged_order, toc_of, sized_answer, first_read, second_read, refused_read, first_reading, second_reading, tables_of, written, after, toc_numbers}
+use Rattle.toc.specs.Reading.{Table, Tables, tables, Reading, room_for, judged_by, judged_order, toc_of, sized_answer, first_read, second_read, refused_read, first_reading, second_reading, tables_of, written, after, toc_numbers}
 use Rattle.edges.specs.Cases.{facts, listed, five}
 use Rattle.demand.specs.Frames.{BytesToBytes}
 use Rattle.theorems.proofs.Once.{header_by}

@@ -12,8 +12,7 @@ use Rattle.header.specs.Entry.{judged, HeaderTold, told, Headed}
 use Rattle.header.specs.Record.{frame_of}
 use Rattle.order.specs.Tables.{identity}
 use Rattle.toc.specs.declared.Toc.{Toc}
-use Rattle.toc.specs.declared.TocRead.TheVariants.{Table}
-use Rattle.toc.specs.Reading.{Tables, tables, first_reading, second_reading, Done}
+use Rattle.toc.specs.Reading.{Table, Tables, tables, first_reading, second_reading, Done}
 use Rattle.demand.specs.Frames.{HandedOn, BytesToBytes}
 use Rattle.demand.proofs.Theorem.{first_whole, second_whole}
 use Rattle.demand.proofs.Headers.{handed_on, judged_facts}

@@ -21,9 +21,7 @@ use Rattle.header.specs.Record.{frame_of}
 use Rattle.order.specs.Tables.{identity}
 use Rattle.order.proofs.Entries.{split}
 use Rattle.toc.specs.declared.Toc.{Toc}
-use Rattle.toc.specs.declared.TocRead.{TocRead}
-use Rattle.toc.specs.declared.TocRead.TheVariants.{Table, OrderNeeded, Refused}
-use Rattle.toc.specs.Reading.{Tables, tables, Reading, refused_read, first_reading, second_reading, Done, toc_numbers, after}
+use Rattle.toc.specs.Reading.{TocAnswer, Table, OrderNeeded, Refused, Tables, tables, Reading, refused_read, first_reading, second_reading, Done, toc_numbers, after}
 use Rattle.toc.proofs.Accepted.{first_accepted, not_refused}
 use Rattle.c_words.specs.Contents.{toc_status, toc_after, no_room, roomed_reading, Listed}
 use Rattle.c_words.specs.Heading.{front_words, back_words, front_after, arrays_after, words_after, record_room, no_record, Buffers, judged_all, HeadRead}
@@ -42,7 +40,7 @@ use Rattle.demand.proofs.Lent.{lent_whole}
 
 -- ---- a section entry's status of 0 is a table
 
-table_by : {A : Type 0} (l : List ℕ) (needs : Bool) (last : ℕ) (before after : A) (a : TocRead) → last < 2 ^ 56 → Tells l needs last before after a
+table_by : {A : Type 0} (l : List ℕ) (needs : Bool) (last : ℕ) (before after : A) (a : TocAnswer) → last < 2 ^ 56 → Tells l needs last before after a
     → toc_status a ≡ 0 → (toc : Toc) × (a ≡ Table toc)
 table_by l needs last before after (Table toc) big h e = (toc, refl)
 table_by l needs last before after (OrderNeeded place) big h e = absurd (omega arith)
@@ -81,7 +79,7 @@ module _ (s : List ℕ) (f : Frame) (t : Tables) (q : Reading) (out l : List ℕ
 
     out_is : out' ≡ sets out 0 (toc.count ∷ toc.bookmark ∷ toc.total_byte_size ∷ [])
     unfolding toc
-    out_is = d.words ∙ ap (λ (a : TocRead). toc_after a out) tabled.1
+    out_is = d.words ∙ ap (λ (a : TocAnswer). toc_after a out) tabled.1
 
     -- the three words
     word_is : (k : ℕ) → k < 3 → get_or out' k 0 ≡ get_or (toc.count ∷ toc.bookmark ∷ toc.total_byte_size ∷ []) (k - 0) 0

@@ -17,9 +17,7 @@ use Rattle.header.specs.declared.Facts.{Facts}
 use Rattle.header.specs.Entry.{bad_facts, no_room, judged, stands, refusal_of, refused_header, answered, HeaderTold}
 use Rattle.header.specs.Record.{frame_of}
 use Rattle.order.proofs.Entries.{split}
-use Rattle.toc.specs.declared.TocRead.{TocRead}
-use Rattle.toc.specs.declared.TocRead.TheVariants.{Table, OrderNeeded, Refused}
-use Rattle.toc.specs.Reading.{Tables, first_reading, after}
+use Rattle.toc.specs.Reading.{TocAnswer, Table, OrderNeeded, Refused, Tables, first_reading, after}
 use Rattle.decimal.specs.Decimal.{decimal, is_digit, digits_alone, value_from}
 use Rattle.listing.specs.Text.{heading, refused_text, order_text}
 use Rattle.listing.specs.Listed.{listing_text}
@@ -72,7 +70,7 @@ listing_says : (P : ℕ → Type 0) (count : ℕ) (f : Frame) (o z p : List ℕ)
 unfolding listing_text heading refused_text
 listing_says P count f o z p r e = absurd (omega (arith, ap (λ (l : List ℕ). get_or l 0 0) e))
 
-read_says : (P : ℕ → Type 0) (f : Frame) (t : Tables) (order : List ℕ) (a : TocRead) → Refuses P a → Says P (read_text f t order a)
+read_says : (P : ℕ → Type 0) (f : Frame) (t : Tables) (order : List ℕ) (a : TocAnswer) → Refuses P a → Says P (read_text f t order a)
 unfolding read_text
 read_says P f t order (Table toc) h = listing_says P _ f t.offsets t.sizes order
 read_says P f t order (OrderNeeded place) h = order_says P place

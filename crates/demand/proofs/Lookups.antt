@@ -31,9 +31,8 @@ use Rattle.order.proofs.Numbers.{sent_answer_lem, section_answer_lem}
 use Rattle.sections.specs.Lookups.{PlaceAnswer, sent_of_section, section_of_sent}
 use Rattle.sections.proofs.Asking.{place_judged, place_yes, sent_yes, back_yes}
 use Rattle.toc.specs.declared.Toc.{Toc}
-use Rattle.toc.specs.declared.TocRead.TheVariants.{Table}
 use Rattle.toc.specs.Sizes.{sent_before}
-use Rattle.toc.specs.Reading.{Tables, tables, Reading, tables_of, Done}
+use Rattle.toc.specs.Reading.{Table, Tables, tables, Reading, tables_of, Done}
 use Rattle.toc.proofs.Accepted.{Accepted}
 use Rattle.theorems.proofs.Orders.{order_sum}
 use Rattle.theorems.proofs.Spots.{sum_cut}

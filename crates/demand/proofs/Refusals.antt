@@ -19,10 +19,8 @@ use Rattle.header.specs.declared.Facts.{Facts}
 use Rattle.header.specs.Entry.{HeaderTold}
 use Rattle.header.specs.Record.{frame_of}
 use Rattle.order.specs.Order.{is_order, checked}
-use Rattle.toc.specs.declared.TocRead.{TocRead}
-use Rattle.toc.specs.declared.TocRead.TheVariants.{Table, OrderNeeded, Refused}
 use Rattle.toc.specs.Sizes.{size_rows, toc_rows}
-use Rattle.toc.specs.Reading.{Tables, roomy, judged_by, judged, judged_order, Reading, toc_of, sized_answer, first_read, second_read, refused_read, first_reading, second_reading}
+use Rattle.toc.specs.Reading.{TocAnswer, Table, OrderNeeded, Refused, Tables, roomy, judged_by, judged, judged_order, Reading, toc_of, sized_answer, first_read, second_read, refused_read, first_reading, second_reading}
 use Rattle.demand.specs.Frames.{HandedOn}
 use Rattle.demand.proofs.Ranges.{Own, Reads, read_own, Any, reads_bind, reads_inside, reads_pick, reads_times}
 
@@ -35,12 +33,12 @@ unfolding toc_rows Reads
 toc_reads count = λ flag x. reads_pick Any (eqb flag 0) _ _ (reads_inside Any Any _ _ _ (sizes_reads count) (λ sizes y. tt)) tt
 
 -- what is refused, if anything is, has a number with a property
-abbrev pub Refuses : (ℕ → Type 0) → TocRead → Type 0
+abbrev pub Refuses : (ℕ → Type 0) → TocAnswer → Type 0
 Refuses P (Table toc) = Unit {0}
 Refuses P (OrderNeeded place) = Unit {0}
 Refuses P (Refused r) = P r.number
 
-pub refuses_by : (P : ℕ → Type 0) (a : TocRead) → Refuses P a → (r : Refusal) → a ≡ Refused r → P r.number
+pub refuses_by : (P : ℕ → Type 0) (a : TocAnswer) → Refuses P a → (r : Refusal) → a ≡ Refused r → P r.number
 refuses_by P a h r e = rw e at h
 
 -- a property that all numbers have with which an entry may refuse: those of fields, 10, 13, the frame's own, and that of the place

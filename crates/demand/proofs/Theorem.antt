@@ -20,8 +20,7 @@ use Rattle.sections.specs.declared.KindNumbers.{KindNumbers}
 use Rattle.sections.specs.Lookups.{PlaceAnswer}
 use Rattle.sections.specs.Kinds.{KindTold}
 use Rattle.toc.specs.declared.Toc.{Toc}
-use Rattle.toc.specs.declared.TocRead.TheVariants.{Table}
-use Rattle.toc.specs.Reading.{Tables, tables, Reading, first_reading, second_reading, Done}
+use Rattle.toc.specs.Reading.{Table, Tables, tables, Reading, first_reading, second_reading, Done}
 use Rattle.toc.proofs.Accepted.{first_accepted, same_answer, first_telling, second_telling}
 use Rattle.theorems.proofs.Orders.{inverse_back}
 use Rattle.theorems.proofs.Tables.{second_accepted}

@@ -24,9 +24,7 @@ use Rattle.sections.specs.declared.TocGroupKind.{TocGroupKind}
 use Rattle.sections.specs.declared.TocGroupKind.TheVariants.{LfGlobal, LfGroup, HfGlobal}
 use Rattle.sections.specs.Kinds.{section_of_kind}
 use Rattle.sections.specs.Lookups.{PlaceAnswer, place_of}
-use Rattle.toc.specs.declared.TocRead.{TocRead}
-use Rattle.toc.specs.declared.TocRead.TheVariants.{Table, Refused}
-use Rattle.toc.specs.Reading.{Tables, tables, Reading, second_reading, after}
+use Rattle.toc.specs.Reading.{TocAnswer, Table, Refused, Tables, tables, Reading, second_reading, after}
 use Rattle.listing_job.specs.Job.{job_text}
 
 -- ---- how an example is asked
@@ -174,7 +172,7 @@ pub record Edges : Type 0 where
   pub P5 :
       let r : Reading = ordered (2 ∷ 0 ∷ 1 ∷ 3 ∷ 4 ∷ []) in
       let t : Tables = after r five in
-      (◌≡◌ {A = TocRead} r.answer (Table (record { count = 5; bookmark = 9; total_byte_size = 1033 })))
+      (◌≡◌ {A = TocAnswer} r.answer (Table (record { count = 5; bookmark = 9; total_byte_size = 1033 })))
       × (place_of_kind listed_frame t LfGlobal ≡ at 19 3)
       × (place_of_kind listed_frame t (LfGroup 0) ≡ at 9 10)
       × (place_of_kind listed_frame t HfGlobal ≡ at 19 0)
@@ -183,7 +181,7 @@ pub record Edges : Type 0 where
   -- P6 order 0, 0, 1, 2, 3: 13, and nothing written
   pub P6 :
       let r : Reading = ordered (0 ∷ 0 ∷ 1 ∷ 2 ∷ 3 ∷ []) in
-      (◌≡◌ {A = TocRead} r.answer (Refused (refusal 13 0))) × (◌≡◌ {A = Tables} (after r five) five)
+      (◌≡◌ {A = TocAnswer} r.answer (Refused (refusal 13 0))) × (◌≡◌ {A = Tables} (after r five) five)
   -- P7 shift 0, height 128, one pass: width 7,456,256 gives 65,536 sections
   pub P7 : ((grid_of (wide 7456256)).sections ≡ 65536) × ((grid_of (wide 7456256)).refusal ≡ none)
   -- P8 width 7,456,257 gives 65,537, refused

@@ -6,8 +6,7 @@ use lib.ListN.{length}
 use borrow.Author.Tests.{lt-ltb, le-ltb}
 use Rattle.bits.specs.declared.Refusal.{Refusal}
 use Rattle.grid.specs.declared.Frame.{Frame}
-use Rattle.toc.specs.declared.TocRead.{TocRead}
-use Rattle.toc.specs.Reading.{Tables, Reading, Done, refused_read, written}
+use Rattle.toc.specs.Reading.{TocAnswer, Tables, Reading, Done, refused_read, written}
 use Rattle.toc.proofs.Accepted.{Telling, same_answer}
 use Rattle.c_words.specs.Status.{status_of}
 use Rattle.c_words.specs.Contents.{toc_status, toc_after, no_room, roomed_reading, Listed}
@@ -29,7 +28,7 @@ module _ (s : List ℕ) (f g : Frame) (ef : f ≡ g) (ask : Frame → Reading) (
       }
 
   -- the entry of the crate below, and its answer as words
-  pub listed : 3 ≤ length out → (a : TocRead) (o z p i out' : List ℕ) (word : ℕ) → Telling (ask f).answer → Done (ask f) t a o z p i → (word ≡ toc_status a) × (out' ≡ toc_after a out)
+  pub listed : 3 ≤ length out → (a : TocAnswer) (o z p i out' : List ℕ) (word : ℕ) → Telling (ask f).answer → Done (ask f) t a o z p i → (word ≡ toc_status a) × (out' ≡ toc_after a out)
       → Listed (roomed_reading s g out (ask g)) t word o z p i out out'
   unfolding roomed_reading
   listed h a o z p i out' word telling done told =

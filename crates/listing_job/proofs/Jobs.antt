@@ -25,9 +25,7 @@ use Rattle.header.specs.Record.{numbers_of, frame_of}
 use Rattle.header.specs.Entry.{told, refused_header}
 use Rattle.std.specs.Prelude.{Ok, Err, eqb}
 use Rattle.toc.specs.declared.Toc.{Toc}
-use Rattle.toc.specs.declared.TocRead.{TocRead}
-use Rattle.toc.specs.declared.TocRead.TheVariants.{Table, OrderNeeded, Refused}
-use Rattle.toc.specs.Reading.{Tables, first_reading, after, tables_of, Done}
+use Rattle.toc.specs.Reading.{TocAnswer, Table, OrderNeeded, Refused, Tables, first_reading, after, tables_of, Done}
 use Rattle.toc.proofs.Accepted.{Accepted, first_accepted, same_answer, first_telling}
 use Rattle.listing.specs.Put.{Texted, fitted}
 use Rattle.listing.specs.Text.{refused_text, order_text}
@@ -59,13 +57,13 @@ take_filled : (new table : List ℕ) (n : ℕ) → length new ≡ n → n ≤ le
 unfolding filled
 take_filled new table n e h = rw (take_all (length table) new (omega arith)) (take_at new (drop (length new) table) n e)
 
-module _ (s : List ℕ) (f : Frame) (place : ℕ) (t : TocRead) (o z p i : List ℕ) (d : Done (first_reading s f place blank) blank t o z p i) where
-  answer_is : (a : TocRead) → t ≡ a → (first_reading s f place blank).answer ≡ a
+module _ (s : List ℕ) (f : Frame) (place : ℕ) (t : TocAnswer) (o z p i : List ℕ) (d : Done (first_reading s f place blank) blank t o z p i) where
+  answer_is : (a : TocAnswer) → t ≡ a → (first_reading s f place blank).answer ≡ a
   answer_is a e = sym (same_answer t _ (first_telling s f place blank) d.answer) ∙ e
 
-  text_is : (a : TocRead) → t ≡ a → sections_text s f place ≡ read_text f (after (first_reading s f place blank) blank) (first_reading s f place blank).order a
+  text_is : (a : TocAnswer) → t ≡ a → sections_text s f place ≡ read_text f (after (first_reading s f place blank) blank) (first_reading s f place blank).order a
   unfolding reading_text
-  text_is a e = ap (λ (x : TocRead). read_text f (after (first_reading s f place blank) blank) (first_reading s f place blank).order x) (answer_is a e)
+  text_is a e = ap (λ (x : TocAnswer). read_text f (after (first_reading s f place blank) blank) (first_reading s f place blank).order x) (answer_is a e)
 
   module _ {out' : List ℕ} (out : List ℕ) (a : Result ℕ Refusal) where
     pub sections_refused : (r : Refusal) → t ≡ Refused r → Texted (fitted (refused_text r) out) (refused_text r) out a out'

@@ -5,9 +5,7 @@ use Rattle.grid.specs.declared.Frame.{Frame}
 use Rattle.header.specs.declared.Facts.{Facts}
 use Rattle.header.specs.Entry.{judged, stands, HeaderTold, answered}
 use Rattle.header.specs.Record.{frame_of}
-use Rattle.toc.specs.declared.TocRead.{TocRead}
-use Rattle.toc.specs.declared.TocRead.TheVariants.{Table, OrderNeeded, Refused}
-use Rattle.toc.specs.Reading.{Tables, tables, Reading, first_reading, after}
+use Rattle.toc.specs.Reading.{TocAnswer, Table, OrderNeeded, Refused, Tables, tables, Reading, first_reading, after}
 use Rattle.listing.specs.Text.{refused_text, order_text}
 use Rattle.listing.specs.Listed.{listing}
 use Rattle.listing_job.specs.Line.{good_line, facts_of, frame_bytes}
@@ -20,7 +18,7 @@ abbrev pub blank : Tables
 blank = tables words words words words
 
 -- the listing of a table that was read, or the line of what came instead
-unfoldable pub read_text : Frame → Tables → List ℕ → TocRead → List ℕ
+unfoldable pub read_text : Frame → Tables → List ℕ → TocAnswer → List ℕ
 read_text f t order (Table toc) = listing f t.offsets t.sizes order
 read_text f t order (OrderNeeded place) = order_text place
 read_text f t order (Refused r) = refused_text r

@@ -38,7 +38,7 @@ fn list_sections(s: &[u8], f: Frame, place: u64, out: &mut [u8]) -> Result<usize
     let mut sizes = [0u32; 1024];
     let mut order = [0u32; 1024];
     let mut inverse = [0u32; 1024];
-    let t = toc::read_toc(
+    let read = toc::read_toc(
         s,
         f,
         place,
@@ -47,10 +47,13 @@ fn list_sections(s: &[u8], f: Frame, place: u64, out: &mut [u8]) -> Result<usize
         &mut order,
         &mut inverse,
     );
+    let t = match read {
+        Ok(t) => t,
+        Err(r) => return listing::write_refused(r, out),
+    };
     match t {
         TocRead::Table(x) => list_table(f, x.count, &offsets, &sizes, &order, out),
         TocRead::OrderNeeded(p) => listing::write_order_needed(p, out),
-        TocRead::Refused(r) => listing::write_refused(r, out),
     }
 }
 

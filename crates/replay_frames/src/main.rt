@@ -149,20 +149,20 @@ fn tables(out: &mut Output, s: &[u8], f: Frame, place: u64, lent: Option<&[u32]>
 }
 
 // 0, the count, the data start and the total; or 1 and the place; or 2, the refusal and its place. How many sections there are to show.
-fn answered(out: &mut Output, t: TocRead) -> u32 {
+fn answered(out: &mut Output, t: Result<TocRead, Refusal>) -> u32 {
     let count = match t {
-        TocRead::Table(x) => {
+        Ok(TocRead::Table(x)) => {
             out.cells(&[0, x.count]);
             out.show(x.bookmark);
             out.show(x.total_byte_size);
             x.count
         }
-        TocRead::OrderNeeded(p) => {
+        Ok(TocRead::OrderNeeded(p)) => {
             out.show(1);
             out.show(p);
             0
         }
-        TocRead::Refused(e) => {
+        Err(e) => {
             out.show(2);
             out.refusal(e);
             0

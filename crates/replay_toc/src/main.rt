@@ -90,18 +90,18 @@ fn with_tables(out: &mut Output, r: &[u8], s: &[u8], lent: &[u32]) {
 }
 
 // 0, the count, the data start and the total; or 1 and the place; or 2, the refusal and its place.
-fn show(out: &mut Output, t: TocRead) {
+fn show(out: &mut Output, t: Result<TocRead, Refusal>) {
     match t {
-        TocRead::Table(x) => {
+        Ok(TocRead::Table(x)) => {
             out.cells(&[0, x.count]);
             out.show(x.bookmark);
             out.show(x.total_byte_size);
         }
-        TocRead::OrderNeeded(p) => {
+        Ok(TocRead::OrderNeeded(p)) => {
             out.show(1);
             out.show(p);
         }
-        TocRead::Refused(e) => {
+        Err(e) => {
             out.show(2);
             out.refusal(e);
         }

@@ -22,9 +22,7 @@ use Rattle.header.specs.declared.Facts.{Facts}
 use Rattle.header.specs.Entry.{HeaderTold, judged}
 use Rattle.header.specs.Record.{frame_of}
 use Rattle.toc.specs.declared.Toc.{Toc}
-use Rattle.toc.specs.declared.TocRead.{TocRead}
-use Rattle.toc.specs.declared.TocRead.TheVariants.{Table, OrderNeeded, Refused}
-use Rattle.toc.specs.Reading.{Reading, first_reading, after}
+use Rattle.toc.specs.Reading.{TocAnswer, Table, OrderNeeded, Refused, Reading, first_reading, after}
 use Rattle.toc.proofs.Accepted.{Accepted, first_accepted}
 use Rattle.listing.specs.Put.{Texted, fitted, answer_by}
 use Rattle.listing.specs.Text.{refused_text}
@@ -114,7 +112,7 @@ known_by l s r h =
 refused_fits : (r : Refusal) → Known r → Fits (refused_text r)
 refused_fits r k = omega (arith, refused_long r k)
 
-read_fits : (s : List ℕ) (f : Frame) (place : ℕ) (a : TocRead) → (first_reading s f place blank).answer ≡ a
+read_fits : (s : List ℕ) (f : Frame) (place : ℕ) (a : TocAnswer) → (first_reading s f place blank).answer ≡ a
     → Tells of_toc true (bit_count s) blank (after (first_reading s f place blank) blank) a
     → Fits (read_text f (after (first_reading s f place blank) blank) (first_reading s f place blank).order a)
 unfolding read_text

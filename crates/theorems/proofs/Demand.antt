@@ -23,12 +23,11 @@ use Rattle.order.proofs.Reach.{order_below}
 use Rattle.order.proofs.Inverse.{inverse_order, inverse_there}
 use Rattle.order.proofs.Tables.{get_d_tabulate}
 use Rattle.toc.specs.declared.Toc.{Toc}
-use Rattle.toc.specs.declared.TocRead.TheVariants.{Table}
 use Rattle.sections.specs.declared.TocGroupKind.{TocGroupKind}
 use Rattle.sections.specs.declared.TocGroupKind.TheVariants.{All, GroupPass}
 use Rattle.sections.specs.Kinds.{numbers_of, section_number, KindTold, kind_of}
 use Rattle.toc.specs.Sizes.{sent_before, offsets_by, sizes_by}
-use Rattle.toc.specs.Reading.{Tables, tables, Reading, first_reading, second_reading, Done}
+use Rattle.toc.specs.Reading.{Table, Tables, tables, Reading, first_reading, second_reading, Done}
 use Rattle.sections.specs.Lookups.{sample_kind, section_of_sample}
 use Rattle.sections.proofs.OfKinds.{number_below, of_kind_yes}
 use Rattle.sections.proofs.Asking.{Sample, sample_all, sample_group, sample_has}

@@ -26,6 +26,7 @@ use Rattle.header.specs.Blending.{blending, words}
 use Rattle.header.specs.Closing.{closing}
 use Rattle.header.specs.Header.{front, back, header}
 use Rattle.header.specs.Record.{zero_header}
+use Rattle.header.proofs.Entering.{headed_number}
 use Rattle.header.specs.Entry.{bad_facts, no_room, judged, stands, refusal_of, HeaderTold, told, refused_header, answered, buffer_after, Headed}
 use Rattle.order.proofs.Entries.{split}
 use Rattle.theorems.specs.Refusing.{Refuses, Ends, header_said, of_facts, of_header, of_filter}
@@ -128,10 +129,6 @@ module _ (f : Facts) (s : List ℕ) (before : Refusal) (own : Refuses of_facts 0
       (refused_header (refusal_of before (stands f s)))
       (refuses_none of_header (bit_count s) refl) first
 
-  pub answered_given : (answered f before (stands f s)).given ≡ eqb (answered f before (stands f s)).refusal.number 0
-  unfolding answered refused_header
-  answered_given = split (eqb (refusal_of before (stands f s)).number 0) (λ t. rw t refl) (λ t. rw t (sym t))
-
   module _ (some : (answered f before (stands f s)).refusal.number ≡ 0 → ⊥) where
     pub stopped : eqb (refusal_of before (stands f s)).number 0 ≡ false
     unfolding answered
@@ -152,19 +149,19 @@ unfolding refused_header
 read_frame_header f s r name name' upsampling upsampling' blending blending' h =
     let before : Refusal = judged (length s) f (length name) (length upsampling) (length blending) in
     let own = judge_header (length s) f (length name) (length upsampling) (length blending) in
-    let is : (told r).refusal ≡ (answered f before (stands f s)).refusal = ap (λ (a : HeaderTold). a.refusal) h.answer in
-    let given : (told r).given ≡ eqb (told r).refusal.number 0 =
-    ap (λ (a : HeaderTold). a.given) h.answer ∙ answered_given f s before own ∙ sym (ap (λ (a : HeaderTold). eqb a.refusal.number 0) h.answer) in
-    (given, record {
-      refuses = rw is (answered_refuses f s before own);
-      either =
-          λ some'.
-          let some : (answered f before (stands f s)).refusal.number ≡ 0 → ⊥ = λ z. some' (ap (λ (x : Refusal). x.number) is ∙ z) in
-          let zero : told r ≡ refused_header (refusal_of before (stands f s)) = h.answer ∙ answered_zero f s before own some in
-          let head : (told r).header ≡ zero_header = ap (λ (a : HeaderTold). a.header) zero in
-          let end : (told r).end ≡ 0 = ap (λ (a : HeaderTold). a.end) zero in
-          let n : name' ≡ name = h.named ∙ buffer_kept f s before own some (stands f s).value.name name in
-          let u : upsampling' ≡ upsampling = h.upsampled ∙ buffer_kept f s before own some (stands f s).value.upsampling upsampling in
-          let b : blending' ≡ blending = h.blended ∙ buffer_kept f s before own some (words (stands f s).value.blending) blending in
-          rw (head, end, n, u, b);
-    })
+    let is : (told r).refusal ≡ (answered f before (stands f s)).refusal = ap (λ (a : HeaderTold). a.refusal) h.answer in (
+      headed_number f s r name name' upsampling upsampling' blending blending' h,
+      record {
+        refuses = rw is (answered_refuses f s before own);
+        either =
+            λ some'.
+            let some : (answered f before (stands f s)).refusal.number ≡ 0 → ⊥ = λ z. some' (ap (λ (x : Refusal). x.number) is ∙ z) in
+            let zero : told r ≡ refused_header (refusal_of before (stands f s)) = h.answer ∙ answered_zero f s before own some in
+            let head : (told r).header ≡ zero_header = ap (λ (a : HeaderTold). a.header) zero in
+            let end : (told r).end ≡ 0 = ap (λ (a : HeaderTold). a.end) zero in
+            let n : name' ≡ name = h.named ∙ buffer_kept f s before own some (stands f s).value.name name in
+            let u : upsampling' ≡ upsampling = h.upsampled ∙ buffer_kept f s before own some (stands f s).value.upsampling upsampling in
+            let b : blending' ≡ blending = h.blended ∙ buffer_kept f s before own some (words (stands f s).value.blending) blending in
+            rw (head, end, n, u, b);
+      },
+    )

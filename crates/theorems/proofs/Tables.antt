@@ -19,9 +19,8 @@ use Rattle.order.proofs.Reach.{order_length, order_below}
 use Rattle.order.proofs.Inverse.{inverse_length}
 use Rattle.order.proofs.Tables.{length_tabulate, get_d_tabulate, filled_at}
 use Rattle.toc.specs.declared.Toc.{Toc}
-use Rattle.toc.specs.declared.TocRead.TheVariants.{Table}
 use Rattle.toc.specs.Sizes.{sent_before, offsets_by, sizes_by}
-use Rattle.toc.specs.Reading.{Tables, roomy, judged, Reading, second_reading, tables_of, after}
+use Rattle.toc.specs.Reading.{Table, Tables, roomy, judged, Reading, second_reading, tables_of, after}
 use Rattle.toc.proofs.Entering.{sized_reading_lem, fair, roomed, second_refused, second_bad, second_is, lent_order}
 use Rattle.toc.proofs.Accepted.{Accepted, not_refused, accepted_by, place_within}
 use Rattle.theorems.proofs.Orders.{order_sum}

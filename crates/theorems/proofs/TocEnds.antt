@@ -18,10 +18,8 @@ use Rattle.bits.proofs.Reading.{picked, read_within_end, of_both}
 use Rattle.grid.specs.declared.Frame.{Frame}
 use Rattle.grid.specs.Measured.{grid_of}
 use Rattle.order.specs.Order.{checked}
-use Rattle.toc.specs.declared.TocRead.{TocRead}
-use Rattle.toc.specs.declared.TocRead.TheVariants.{Table, OrderNeeded, Refused}
 use Rattle.toc.specs.Sizes.{Sent, size_rows, toc_rows}
-use Rattle.toc.specs.Reading.{Tables, tables, roomy, judged_by, judged, judged_order, Reading, toc_of, sized_answer, first_read, second_read, refused_read, first_reading, second_reading, written, after, Done}
+use Rattle.toc.specs.Reading.{TocAnswer, Table, OrderNeeded, Refused, Tables, tables, roomy, judged_by, judged, judged_order, Reading, toc_of, sized_answer, first_read, second_read, refused_read, first_reading, second_reading, written, after, Done}
 use Rattle.toc.proofs.Judging.{judged_fair}
 use Rattle.toc.proofs.Accepted.{Telling, same_answer, first_telling, second_telling}
 use Rattle.theorems.specs.Refusing.{Refuses, Tells, of_frame, of_order, of_toc, of_toc_order}
@@ -31,13 +29,13 @@ use Rattle.theorems.proofs.GridEnds.{grid_refuses}
 use Rattle.theorems.proofs.SectionEnds.{check_order}
 
 -- what is said by an answer, apart from what was written
-abbrev Said : List ℕ → Bool → ℕ → TocRead → Type 0
+abbrev Said : List ℕ → Bool → ℕ → TocAnswer → Type 0
 Said l needs last (Table toc) = Unit {0}
 Said l needs last (OrderNeeded place) = (needs ≡ true) × (place ≤ last)
 Said l needs last (Refused r) = Refuses l last r
 
 -- with what is known to be told: a table has a section, a refusal a number
-tells : (l : List ℕ) (needs : Bool) (last : ℕ) (a : TocRead) (sizes order : List ℕ) (t : Tables) → Telling a → Said l needs last a
+tells : (l : List ℕ) (needs : Bool) (last : ℕ) (a : TocAnswer) (sizes order : List ℕ) (t : Tables) → Telling a → Said l needs last a
     → Tells l needs last t (written a sizes order t) a
 unfolding written
 tells l needs last (Table toc) sizes order t k h = k
@@ -45,7 +43,7 @@ tells l needs last (OrderNeeded place) sizes order t k h = (h.0, h.1, refl)
 tells l needs last (Refused r) sizes order t k h = (k, h, refl)
 
 -- an entry's answer is the one of its definition
-ends : (l : List ℕ) (needs : Bool) (last : ℕ) (q : Reading) (t : Tables) (result : TocRead) (o z p i : List ℕ)
+ends : (l : List ℕ) (needs : Bool) (last : ℕ) (q : Reading) (t : Tables) (result : TocAnswer) (o z p i : List ℕ)
     → Telling q.answer → Said l needs last q.answer → Done q t result o z p i → Tells l needs last t (tables o z p i) result
 ends l needs last q t result o z p i k h d =
     let is : result ≡ q.answer = same_answer result q.answer k d.answer in
@@ -152,12 +150,12 @@ second_tells s f place lent t =
     tells of_toc_order false (bit_count s) (second_reading s f place lent t).answer _ _ t (second_telling s f place t lent)
     (second_said s f place lent t)
 
-pub read_toc : (s : List ℕ) (f : Frame) (place : ℕ) (t : Tables) (result : TocRead) (o z p i : List ℕ)
+pub read_toc : (s : List ℕ) (f : Frame) (place : ℕ) (t : Tables) (result : TocAnswer) (o z p i : List ℕ)
     → Done (first_reading s f place t) t result o z p i → Tells of_toc true (bit_count s) t (tables o z p i) result
 read_toc s f place t result o z p i d =
     ends of_toc true (bit_count s) (first_reading s f place t) t result o z p i (first_telling s f place t) (first_said s f place t) d
 
-pub read_toc_with_order : (s : List ℕ) (f : Frame) (place : ℕ) (lent : List ℕ) (t : Tables) (result : TocRead) (o z p i : List ℕ)
+pub read_toc_with_order : (s : List ℕ) (f : Frame) (place : ℕ) (lent : List ℕ) (t : Tables) (result : TocAnswer) (o z p i : List ℕ)
     → Done (second_reading s f place lent t) t result o z p i → Tells of_toc_order false (bit_count s) t (tables o z p i) result
 read_toc_with_order s f place lent t result o z p i d =
     ends of_toc_order false (bit_count s) (second_reading s f place lent t) t result o z p i (second_telling s f place t lent)

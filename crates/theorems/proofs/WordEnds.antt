@@ -31,9 +31,7 @@ use Rattle.sections.specs.Kinds.{section_of_kind, kind_of}
 use Rattle.sections.specs.Kinds as kinds
 use Rattle.sections.specs.Lookups.{section_of_sample, place_of, sent_of_section, section_of_sent}
 use Rattle.layout.specs.Layouts.{layout_of, section_in}
-use Rattle.toc.specs.declared.TocRead.{TocRead}
-use Rattle.toc.specs.declared.TocRead.TheVariants.{Table, OrderNeeded, Refused}
-use Rattle.toc.specs.Reading.{Tables, tables, Reading, refused_read, first_reading, second_reading, written, after}
+use Rattle.toc.specs.Reading.{TocAnswer, Table, OrderNeeded, Refused, Tables, tables, Reading, refused_read, first_reading, second_reading, written, after}
 use Rattle.listing.specs.Put.{fitted}
 use Rattle.c_words.specs.Status.{status_of, is_early, roomed}
 use Rattle.c_words.specs.Answers.{Answer, refusal_for, Given}
@@ -220,7 +218,7 @@ some_number n f =
 
 module _ (l : List ℕ) (ok : rules l ≡ true) (needs : Bool) (last : ℕ) (big : last < 2 ^ 56) where
   -- `give_toc`: what is told of an answer, the word holds
-  pub answer_word : (a : TocRead) (before after : Tables) (out : List ℕ) → Tells l needs last before after a
+  pub answer_word : (a : TocAnswer) (before after : Tables) (out : List ℕ) → Tells l needs last before after a
       → TocWordEnds l needs last (toc_status a) (lent before out) (lent after (toc_after a out))
   answer_word (Table toc) before after out h = inl (record { refuses = refuses_none l last ok; either = λ some. absurd (some refl) })
   answer_word (OrderNeeded place) before after out h =

@@ -30,8 +30,7 @@ use Rattle.sections.specs.Kinds.{section_of_kind, kind_of}
 use Rattle.sections.specs.Lookups.{section_of_sample, place_of, sent_of_section, section_of_sent}
 use Rattle.layout.specs.declared.Layout.{Layout}
 use Rattle.layout.specs.Layouts.{layout_of, section_in}
-use Rattle.toc.specs.declared.TocRead.{TocRead}
-use Rattle.toc.specs.Reading.{Tables, tables, first_reading, second_reading, Done}
+use Rattle.toc.specs.Reading.{TocAnswer, Tables, tables, first_reading, second_reading, Done}
 use Rattle.listing.specs.Put.{fitted, Texted}
 use Rattle.listing.specs.Text.{refused_text, order_text}
 use Rattle.listing.specs.Listed.{listing, listing_refusal}
@@ -80,9 +79,9 @@ pub record EveryFunction : Type 0 where
   pub layout_of_lem : (f : Frame) → LayoutEnds of_frame (layout_of f)
   pub section_in_lem : (l : Layout) (x y pass : ℕ) → SectionEnds of_layout (section_in l x y pass)
   -- the section entries
-  pub read_toc : (s : List ℕ) (f : Frame) (place : ℕ) (t : Tables) (result : TocRead) (o z p i : List ℕ)
+  pub read_toc : (s : List ℕ) (f : Frame) (place : ℕ) (t : Tables) (result : TocAnswer) (o z p i : List ℕ)
       → Done (first_reading s f place t) t result o z p i → Tells of_toc true (bit_count s) t (tables o z p i) result
-  pub read_toc_with_order : (s : List ℕ) (f : Frame) (place : ℕ) (lent : List ℕ) (t : Tables) (result : TocRead) (o z p i : List ℕ)
+  pub read_toc_with_order : (s : List ℕ) (f : Frame) (place : ℕ) (lent : List ℕ) (t : Tables) (result : TocAnswer) (o z p i : List ℕ)
       → Done (second_reading s f place lent t) t result o z p i → Tells of_toc_order false (bit_count s) t (tables o z p i) result
   -- the header
   pub judge_header : (n : ℕ) (f : Facts) (name upsampling blending : ℕ) → Refuses of_facts 0 (judged n f name upsampling blending)

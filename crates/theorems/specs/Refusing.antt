@@ -17,9 +17,7 @@ use Rattle.grid.specs.Groups.{Touches, Placed, Sized, Number}
 use Rattle.order.specs.Numbers.{SentAnswer, SectionAnswer}
 use Rattle.sections.specs.Lookups.{PlaceAnswer}
 use Rattle.layout.specs.Layouts.{LayoutAnswer}
-use Rattle.toc.specs.declared.TocRead.{TocRead}
-use Rattle.toc.specs.declared.TocRead.TheVariants.{Table, OrderNeeded, Refused}
-use Rattle.toc.specs.Reading.{Tables}
+use Rattle.toc.specs.Reading.{TocAnswer, Table, OrderNeeded, Refused, Tables}
 
 -- whether a number stands in a list
 abbrev pub among : List ℕ → ℕ → Bool
@@ -115,7 +113,7 @@ TextEnds numbers a before after =
     ((r : Refusal) → a ≡ Err r → r.number ≡ 0 → ⊥) × Ends {A = TextSaid} numbers 0 (refusal_in a) (record { length = 0; bytes = before }) (record { length = said_in 0 a; bytes = after })
 
 -- The section entries answer a table, or "order needed" where no order is lent, or a refusal, which has a number; only a table changes what was lent.
-abbrev pub Tells : {A : Type 0} → List ℕ → Bool → ℕ → A → A → TocRead → Type 0
+abbrev pub Tells : {A : Type 0} → List ℕ → Bool → ℕ → A → A → TocAnswer → Type 0
 Tells numbers needs last before after (Table toc) = 0 < toc.count
 Tells numbers needs last before after (OrderNeeded place) = (needs ≡ true) × (place ≤ last) × (after ≡ before)
 Tells numbers needs last before after (Refused r) = (r.number ≡ 0 → ⊥) × Refuses numbers last r × (after ≡ before)

@@ -17,11 +17,9 @@ use Rattle.order.proofs.Entries.{split}
 use Rattle.order.proofs.Inverse.{identity_order}
 use Rattle.order.proofs.Tables.{length_tabulate, get_d_tabulate}
 use Rattle.toc.specs.declared.Toc.{Toc}
-use Rattle.toc.specs.declared.TocRead.{TocRead}
-use Rattle.toc.specs.declared.TocRead.TheVariants.{Table, OrderNeeded, Refused}
 use Rattle.toc.specs.Sizes.{Sent, size_rows, toc_rows, sent_before}
 use Rattle.toc.specs.Private.{size_at, padded, walked, Room}
-use Rattle.toc.specs.Reading.{Tables, roomy, judged, judged_order, TocNumbers, toc_numbers, Reading, toc_of, sized_answer, first_read, second_read, refused_read, first_reading, second_reading, tables_of, written, after}
+use Rattle.toc.specs.Reading.{TocAnswer, Table, OrderNeeded, Refused, Tables, roomy, judged, judged_order, TocNumbers, toc_numbers, Reading, toc_of, sized_answer, first_read, second_read, refused_read, first_reading, second_reading, tables_of, written, after}
 use Rattle.sections.proofs.Counts.{Counts, counts}
 use Rattle.toc.proofs.Walking.{size_small, rows_read}
 use Rattle.toc.proofs.Judging.{Fair, judged_fair}
@@ -43,13 +41,13 @@ pub record Accepted (s : List ℕ) (f : Frame) (t : Tables) (toc : Toc) (q : Rea
   pub filled : after q t ≡ tables_of toc q.sizes q.order t
 
 -- An answer that its number and values tell whole: a table has a section, and a refusal a number.
-abbrev pub Telling : TocRead → Type 0
+abbrev pub Telling : TocAnswer → Type 0
 Telling (Table toc) = 0 < toc.count
 Telling (OrderNeeded place) = Unit {0}
 Telling (Refused r) = r.number ≡ 0 → ⊥
 
 -- then another with the same number and values is the same
-pub same_answer : (a b : TocRead) → Telling b → toc_numbers a ≡ toc_numbers b → a ≡ b
+pub same_answer : (a b : TocAnswer) → Telling b → toc_numbers a ≡ toc_numbers b → a ≡ b
 same_answer (Table x) (Table y) k e = ap (λ (n : TocNumbers). Table n.toc) e
 same_answer (Table x) (OrderNeeded q) k e = absurd (let z : ◌≡◌ {A = ℕ} 0 255 = ap (λ (n : TocNumbers). n.number) e in omega arith)
 same_answer (Table x) (Refused r) k e = absurd (k (sym (ap (λ (n : TocNumbers). n.number) e)))
@@ -65,10 +63,10 @@ sized_by : (b : Bool) (x toc : Toc) (r : Refusal) → pick b (Table x) (Refused 
 sized_by true x toc r e = cc
 sized_by false x toc r e = absurd (let z : ◌≡◌ {A = ℕ} 0 1 = cc in omega arith)
 
-pub not_refused : (r : Refusal) (toc : Toc) (a : TocRead) → (r.number ≡ 0 → ⊥) → toc_numbers (Refused r) ≡ toc_numbers a → a ≡ Table toc → ⊥
+pub not_refused : (r : Refusal) (toc : Toc) (a : TocAnswer) → (r.number ≡ 0 → ⊥) → toc_numbers (Refused r) ≡ toc_numbers a → a ≡ Table toc → ⊥
 not_refused r toc a some p q = some (ap (λ (n : TocNumbers). n.number) (p ∙ ap toc_numbers q))
 
-pub not_needed : (n : ℕ) (toc : Toc) (a : TocRead) → toc_numbers (OrderNeeded n) ≡ toc_numbers a → a ≡ Table toc → ⊥
+pub not_needed : (n : ℕ) (toc : Toc) (a : TocAnswer) → toc_numbers (OrderNeeded n) ≡ toc_numbers a → a ≡ Table toc → ⊥
 not_needed n toc a p q = let z : ◌≡◌ {A = ℕ} 255 0 = ap (λ (n : TocNumbers). n.number) (p ∙ ap toc_numbers q) in omega arith
 
 -- a lent order is judged only where nothing was refused before it
@@ -114,7 +112,7 @@ module _ (s : List ℕ) (f : Frame) (t : Tables) (toc : Toc) (q : Reading) (l : 
 
     filled_is : after q t ≡ tables_of toc q.sizes q.order t
     unfolding written
-    filled_is = ap (λ (a : TocRead). written a q.sizes q.order t) table
+    filled_is = ap (λ (a : TocAnswer). written a q.sizes q.order t) table
 
     pub accepted_by : is_order (grid_of f).sections l ≡ true → (place : ℕ) (room : Bool) → Fair s (grid_of f) place room
         → Room (grid_of f).sections (length t.offsets) (length t.sizes) (length t.order) (length t.inverse) → c.at ≤ bit_count s

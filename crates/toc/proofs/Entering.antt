@@ -20,11 +20,9 @@ use Rattle.order.proofs.Inverse.{identity_inverse}
 use Rattle.order.proofs.Placed.{placed_inverse}
 use Rattle.toc.specs.declared.reading.Walk.{Walk}
 use Rattle.toc.specs.declared.Toc.{Toc}
-use Rattle.toc.specs.declared.TocRead.{TocRead}
-use Rattle.toc.specs.declared.TocRead.TheVariants.{Table, OrderNeeded, Refused}
 use Rattle.toc.specs.Sizes.{Sent, size_rows, toc_rows}
 use Rattle.toc.specs.Private.{size_at, offset_at, padded, walked, Room, order_by, sized_reading}
-use Rattle.toc.specs.Reading.{toc_numbers, Tables, roomy, judged_by, judged, judged_order, Reading, toc_of, sized_answer, first_read, second_read, refused_read, first_reading, second_reading, tables_of, written, after, Done}
+use Rattle.toc.specs.Reading.{TocAnswer, Table, OrderNeeded, Refused, toc_numbers, Tables, roomy, judged_by, judged, judged_order, Reading, toc_of, sized_answer, first_read, second_read, refused_read, first_reading, second_reading, tables_of, written, after, Done}
 use Rattle.toc.proofs.Walking.{rows_read}
 use Rattle.toc.proofs.Judging.{room_parts, Fair, judged_fair}
 use Rattle.toc.proofs.Filling.{sent_before_lem, placed_by_section, offsets_by_lem, sizes_by_lem}
@@ -61,10 +59,10 @@ module _ (s : List ℕ) (c : Cursor) (count : ℕ) (flag : Read ℕ) (e : flag �
 
 -- ---- what an entry promises, by its answer
 
-pub done_kept : (q : Reading) (t : Tables) (a : TocRead) → q.answer ≡ a → ((z l : List ℕ) → written a z l t ≡ t)
+pub done_kept : (q : Reading) (t : Tables) (a : TocAnswer) → q.answer ≡ a → ((z l : List ℕ) → written a z l t ≡ t)
     → Done q t a t.offsets t.sizes t.order t.inverse
 done_kept q t a e same =
-    let stays : after q t ≡ t = ap (λ (x : TocRead). written x q.sizes q.order t) e ∙ same q.sizes q.order in
+    let stays : after q t ≡ t = ap (λ (x : TocAnswer). written x q.sizes q.order t) e ∙ same q.sizes q.order in
     record {
       answer = ap toc_numbers (sym e);
       offsets = sym (ap (λ (x : Tables). x.offsets) stays);
@@ -121,7 +119,7 @@ module _ (s : List ℕ) (c : Cursor) (count : ℕ) (l : List ℕ) (w : Walk) (ew
       let z : List ℕ = tabulate count (size_at s (padded s c)) in
       let toc : Toc = record { count = count; bookmark = w.last.at / 8; total_byte_size = w.total } in
       let is : after q t ≡ tables_of toc z l t =
-      ap (λ (x : Reading). after x t) (sized_reading_lem s c count l) ∙ ap (λ (a : TocRead). written a z l t) (toc_at h) in
+      ap (λ (x : Reading). after x t) (sized_reading_lem s c count l) ∙ ap (λ (a : TocAnswer). written a z l t) (toc_at h) in
       let eo' : o' ≡ placed_by (offset_at s (padded s c) (w.last.at / 8)) 0 (take count i') t.offsets = rw walk_first at eo in
       let es' : s' ≡ placed_by (size_at s (padded s c)) 0 (take count i') t.sizes = rw walk_first at es in
       record {
@@ -203,15 +201,15 @@ module _ (s : List ℕ) (f : Frame) (place : ℕ) (t : Tables) (g : Measured) (m
       second_is h b eb = rw (← second_judged lent bad e z, eq-eqb bad.number 0 h, ← m, ← eb)
 
 -- an entry that is refused before it reads
-module _ (s : List ℕ) (f : Frame) (place : ℕ) (t : Tables) (r : Refusal) (e : Err r ≡ answered (judged s (grid_of f) place t) (grid_in (grid_of f))) where
+module _ (s : List ℕ) (f : Frame) (place : ℕ) (t : Tables) (r : Refusal) (e : Err r ≡ answered (judged s (grid_of f) place t) (grid_of f).sections) where
   pub first_err : Done (first_reading s f place t) t (Refused r) t.offsets t.sizes t.order t.inverse
   first_err =
-      let w = answered_err (judged s (grid_of f) place t) r (grid_in (grid_of f)) (sym e) in
+      let w = answered_err (judged s (grid_of f) place t) r (grid_of f).sections (sym e) in
       rw (← w.1) (first_refused s f place t (grid_of f) refl _ refl (judged s (grid_of f) place t) refl w.0)
 
   pub second_err : (lent : List ℕ) → Done (second_reading s f place lent t) t (Refused r) t.offsets t.sizes t.order t.inverse
   second_err lent =
-      let w = answered_err (judged s (grid_of f) place t) r (grid_in (grid_of f)) (sym e) in
+      let w = answered_err (judged s (grid_of f) place t) r (grid_of f).sections (sym e) in
       rw (← w.1) (second_refused s f place t (grid_of f) refl _ refl (judged s (grid_of f) place t) refl lent w.0)
 
 -- the orders that the entries write

@@ -8,7 +8,7 @@ use Rattle.bits.specs.Refusals.{pick, refusal, none, answered}
 use Rattle.bits.proofs.Answered.{answered_ok}
 use Rattle.grid.specs.declared.Frame.{Frame}
 use Rattle.grid.specs.declared.Grid.{Grid}
-use Rattle.grid.proofs.Answered.{measured_from, measured_ok, measured_err}
+use Rattle.grid.proofs.Answered.{own, measured_from, measured_ok, measured_err}
 use Rattle.grid.proofs.Accepted.{and_parts}
 use Rattle.toc.specs.Private.{Room}
 use Rattle.toc.specs.Reading.{Tables, roomy, room_for, judged_by}
@@ -85,35 +85,34 @@ module _ (s : List ℕ) (g : Measured) (place : ℕ) (room : Bool) where
 
 -- the same as `judge_place` gives it: each refusal, or the frame's grid
 module _ (s : List ℕ) (f : Frame) (place : ℕ) (room : Bool) where
-  pub place_long : 16777216 < length s → Err (refusal 2 0) ≡ answered (judged_by s (grid_of f) place room) (grid_in (grid_of f))
+  pub place_long : 16777216 < length s → Err (refusal 2 0) ≡ answered (judged_by s (grid_of f) place room) (grid_of f).sections
   place_long h = rw (← judged_long s (grid_of f) place room (refusal 2 0) h refl)
 
   module _ (short : length s ≤ 16777216) where
-    pub place_frame : (r : Refusal) → Err r ≡ grid_or_refused (grid_of f) → Err r ≡ answered (judged_by s (grid_of f) place room) (grid_in (grid_of f))
-    place_frame r e = rw (← judged_frame s (grid_of f) place room short (measured_err f r e).0) e
+    pub place_frame : (r : Refusal) → Err r ≡ grid_or_refused (grid_of f) → Err r ≡ answered (judged_by s (grid_of f) place room) (grid_of f).sections
+    place_frame r e = rw (← judged_frame s (grid_of f) place room short (measured_err f r e).0) (own f r (grid_of f).sections e)
 
     module _ (g : Grid) (e : Ok g ≡ grid_or_refused (grid_of f)) where
       fine : (grid_of f).refusal.number ≡ 0
       fine = rw (← measured_ok f g e) refl
 
-      pub place_room : not room ≡ true → Err (refusal 3 0) ≡ answered (judged_by s (grid_of f) place room) (grid_in (grid_of f))
+      pub place_room : not room ≡ true → Err (refusal 3 0) ≡ answered (judged_by s (grid_of f) place room) (grid_of f).sections
       place_room t = rw (← judged_room s (grid_of f) place room short fine (refusal 3 0) t refl)
 
       module _ (t : not room ≡ false) where
-        pub place_past : 8 * length s < place → Err (refusal 11 0) ≡ answered (judged_by s (grid_of f) place room) (grid_in (grid_of f))
+        pub place_past : 8 * length s < place → Err (refusal 11 0) ≡ answered (judged_by s (grid_of f) place room) (grid_of f).sections
         place_past h = rw (← judged_past s (grid_of f) place room short fine t (refusal 11 0) h refl)
 
-        pub place_good : place ≤ 8 * length s → Ok g ≡ answered (judged_by s (grid_of f) place room) (grid_in (grid_of f))
+        pub place_good : place ≤ 8 * length s → Ok g.sections ≡ answered (judged_by s (grid_of f) place room) (grid_of f).sections
         place_good h = rw (← judged_good s (grid_of f) place room short fine t none h refl, ← measured_ok f g e)
 
 -- the room is judged by the grid's count
 pub room_of : (f : Frame) (g : Grid) → Ok g ≡ grid_or_refused (grid_of f) → (o s p i : ℕ) → room_for g.sections o s p i ≡ room_for (grid_of f).sections o s p i
 room_of f g e o s p i = rw (← measured_ok f g e)
 
--- and what it says that there was a grid
-pub place_ok : (s : List ℕ) (f : Frame) (place : ℕ) (t : Tables) (g : Grid) → Ok g ≡ answered (judged_by s (grid_of f) place (roomy (grid_of f).sections t)) (grid_in (grid_of f))
-    → (unrefused g ≡ grid_of f) × ((judged_by s (unrefused g) place (roomy g.sections t)).number ≡ 0)
-place_ok s f place t g e =
-    let w = answered_ok (judged_by s (grid_of f) place (roomy (grid_of f).sections t)) (grid_in (grid_of f)) g (sym e) in
-    let m : unrefused g ≡ grid_of f = measured_from f g (judged_fair s (grid_of f) place (roomy (grid_of f).sections t) w.0).frame w.1 in
-    (m, ap (λ (h : Measured). (judged_by s h place (roomy h.sections t)).number) m ∙ w.0)
+-- and what it says that there was a count
+pub place_ok : (s : List ℕ) (f : Frame) (place : ℕ) (t : Tables) (n : ℕ) → Ok n ≡ answered (judged_by s (grid_of f) place (roomy (grid_of f).sections t)) (grid_of f).sections
+    → (n ≡ (grid_of f).sections) × ((judged_by s (grid_of f) place (roomy (grid_of f).sections t)).number ≡ 0)
+place_ok s f place t n e =
+    let w = answered_ok (judged_by s (grid_of f) place (roomy (grid_of f).sections t)) (grid_of f).sections n (sym e) in
+    (sym w.1, w.0)

@@ -1,5 +1,5 @@
 -- The two section entries: the refusals in their order, the answer, and what the four lent tables hold afterwards.
-use Rattle.std.specs.Prelude.{◌≡◌, ℕ, ◌*◌, ◌/◌, Bool, ◌&&◌, List, [], length, ◌==◌, nat_le, nat_lt}
+use Rattle.std.specs.Prelude.{Result, Ok, Err, ◌≡◌, ℕ, ◌*◌, ◌/◌, Bool, ◌&&◌, List, [], length, ◌==◌, nat_le, nat_lt}
 use Rattle.bits.specs.declared.Read.{Read}
 use Rattle.bits.specs.declared.Refusal.{Refusal}
 use Rattle.bits.specs.declared.Cursor.{Cursor}
@@ -11,7 +11,7 @@ use Rattle.order.specs.Order.{checked}
 use Rattle.order.specs.Tables.{filled, identity, inverse_of}
 use Rattle.toc.specs.declared.Toc.{Toc}
 use Rattle.toc.specs.declared.TocRead.{TocRead}
-use Rattle.toc.specs.declared.TocRead.TheVariants.{Table, OrderNeeded, Refused}
+use Rattle.toc.specs.declared.TocRead.TheVariants.{Table as ReadTable, OrderNeeded as ReadOrderNeeded}
 use Rattle.toc.specs.Sizes.{Sent, size_rows, toc_rows, sent_before, offsets_by, sizes_by}
 
 -- the four lent tables
@@ -50,6 +50,18 @@ unfoldable pub judged_order : List ℕ → Measured → ℕ → List ℕ → Tab
 judged_order s g place lent t =
     pick ((judged s g place t).number == 0) (checked g.sections lent) (judged s g place t)
 
+-- what a reading answers: a table, "order needed" with the place after the flag, or a refusal
+pub data TocAnswer : Type 0 where
+  Table : Toc → TocAnswer
+  OrderNeeded : ℕ → TocAnswer
+  Refused : Refusal → TocAnswer
+
+-- the same of a value or a refusal
+abbrev pub toc_told : Result TocRead Refusal → TocAnswer
+toc_told (Ok (ReadTable toc)) = Table toc
+toc_told (Ok (ReadOrderNeeded place)) = OrderNeeded place
+toc_told (Err r) = Refused r
+
 -- What an answer says, by number and values: 0 and a table; 255 and the place after the flag ("order needed", which has no number in the rules); else
 -- the number of a refusal, and the refusal.
 pub record TocNumbers : Type 0 where
@@ -61,14 +73,14 @@ pub record TocNumbers : Type 0 where
 abbrev pub no_toc : Toc
 no_toc = record { count = 0; bookmark = 0; total_byte_size = 0 }
 
-abbrev pub toc_numbers : TocRead → TocNumbers
+abbrev pub toc_numbers : TocAnswer → TocNumbers
 toc_numbers (Table toc) = record { number = 0; toc = toc; next = 0; refusal = none }
 toc_numbers (OrderNeeded place) = record { number = 255; toc = no_toc; next = place; refusal = none }
 toc_numbers (Refused r) = record { number = r.number; toc = no_toc; next = 0; refusal = r }
 
 -- what a reading comes to: the answer, and beside a table its order and its sizes as sent
 pub record Reading : Type 0 where
-  pub answer : TocRead
+  pub answer : TocAnswer
   pub order : List ℕ
   pub sizes : List ℕ
 
@@ -81,7 +93,7 @@ abbrev pub single_entry : Toc → Bool
 single_entry toc = nat_le toc.count 1
 
 -- the sizes were read, or the first fault
-unfoldable pub sized_answer : ℕ → List ℕ → Cursor → TocRead
+unfoldable pub sized_answer : ℕ → List ℕ → Cursor → TocAnswer
 sized_answer count sizes c = pick (clear c) (Table (toc_of count sizes c)) (Refused c.fault)
 
 -- the first entry, from the flag on: a flag of 1 is "order needed" with the place after it; else both orders are the identity
@@ -125,7 +137,7 @@ tables_of toc sizes order t = record {
 }
 
 -- only an accepted table is written: a refusal and "order needed" leave the four as they were
-unfoldable pub written : TocRead → List ℕ → List ℕ → Tables → Tables
+unfoldable pub written : TocAnswer → List ℕ → List ℕ → Tables → Tables
 written (Table toc) sizes order t = tables_of toc sizes order t
 written (OrderNeeded p) sizes order t = t
 written (Refused r) sizes order t = t
@@ -134,7 +146,7 @@ abbrev pub after : Reading → Tables → Tables
 after r t = written r.answer r.sizes r.order t
 
 -- what an entry promises: its answer's number and values, and every word of the four tables
-pub record Done (r : Reading) (before : Tables) (result : TocRead) (o s p i : List ℕ) : Type 0 where
+pub record Done (r : Reading) (before : Tables) (result : TocAnswer) (o s p i : List ℕ) : Type 0 where
   pub answer : toc_numbers result ≡ toc_numbers r.answer
   pub offsets : o ≡ (after r before).offsets
   pub sizes : s ≡ (after r before).sizes

@@ -18,12 +18,12 @@ pub struct Toc {
     pub total_byte_size: u64,
 }
 
-// What reading a table comes to: a table, "order needed" with the place after the flag, or a refusal.
+// What reading a table comes to: a table, or "order needed" with the place after the flag.
 #[derive(Clone, Copy, Debug, PartialEq, Eq)]
+pub enum TocRead {
 pub enum TocRead {
     Table(Toc),
     OrderNeeded(u64),
-    Refused(bits::Refusal),
 }
 
 impl Toc {

@@ -1,10 +1,10 @@
 // The two entries that read a table of contents, as `parse` of the Rust's `Toc`. The first reads the permuted flag; the second is lent
 // the order that a flag of 1 asks for, and goes on at the padding. Nothing is written before the whole table is known to be good.
 ghost use Rattle.std.specs.Prelude.{IfSome, ◌≡◌, ◌+◌, ◌<◌, ◌≤◌, true, false, length, take};
-ghost use Rattle.toc.specs.Reading.{Done, tables, room_for, judged_by, first_reading, second_reading};
+ghost use Rattle.toc.specs.Reading.{Done, toc_told, tables, room_for, judged_by, first_reading, second_reading};
 ghost use Rattle.toc.specs.Private.{sized_reading, summed, walked, size_at, offset_at, seen_size, Two, Room, order_by};
 ghost use Rattle.bits.specs.Refusals.{answered};
-ghost use Rattle.grid.specs.Measured.{grid_of, grid_in};
+ghost use Rattle.grid.specs.Measured.{grid_of};
 ghost use Rattle.bits.specs.Codec.{u32, chosen, field};
 ghost use Rattle.order.specs.Order.{is_order};
 ghost use Rattle.order.specs.Private.{placed_by};
@@ -13,7 +13,7 @@ ghost use Rattle.toc.specs.Sizes.{size_choices};
 use crate::orders::put_orders;
 use crate::{Toc, TocRead};
 use bits::{Choice, Cursor, Read, Refusal, Seen, View};
-use grid::{Frame, Grid};
+use grid::Frame;
 
 // Four slices, no struct of them: C lends four, and here only `read_sizes` hands all four on.
 // Whether each of four tables has a word for each section.
@@ -26,7 +26,7 @@ fn has_room(count: u32, offsets: usize, sizes: usize, order: usize, inverse: usi
     words && orders
 }
 
-// What is refused before anything is read: 2, 8, 9, 10, 3, 11; else the frame's grid.
+// What is refused before anything is read: 2, 8, 9, 10, 3, 11; else how many sections the frame has.
 fn judge_place(
     s: &[u8],
     f: Frame,
@@ -35,8 +35,8 @@ fn judge_place(
     sizes: usize,
     order: usize,
     inverse: usize,
-) -> Result<Grid, Refusal>
-    ensures { result ≡ answered (judged_by s.now (grid_of f) place (room_for (grid_of f).sections offsets sizes order inverse)) (grid_in (grid_of f)) }
+) -> Result<u32, Refusal>
+    ensures { result ≡ answered (judged_by s.now (grid_of f) place (room_for (grid_of f).sections offsets sizes order inverse)) (grid_of f).sections }
 {
     if 16777216 < s.len() {
         return Err(bits::refused(2, 0));
@@ -49,7 +49,7 @@ fn judge_place(
     if end < place {
         return Err(bits::refused(11, 0));
     }
-    Ok(g)
+    Ok(g.sections)
 }
 
 // What the walk that judges comes to: the cursor after the first padding, the one after the last, and the sum of the sizes.
@@ -224,26 +224,26 @@ fn read_sizes(
     sizes: &mut [u32],
     order: &mut [u32],
     inverse: &mut [u32],
-) -> TocRead
+) -> Result<TocRead, Refusal>
     requires { (is_order count (order_by given lent.now count) ≡ true) × Room count (length offsets.old) (length sizes.old) (length order.old) (length inverse.old) }
     ensures { Done (sized_reading s.now c count (order_by given lent.now count))
         (tables offsets.old sizes.old order.old inverse.old)
-        result offsets.new sizes.new order.new inverse.new }
+        (toc_told result) offsets.new sizes.new order.new inverse.new }
 {
     let w = walk_sizes(s, c, count);
     let last = w.last;
     let fault = last.fault;
     if fault.number != 0 {
-        return TocRead::Refused(fault);
+        return Err(fault);
     }
     let start = last.at / 8;
     put_orders(given, lent, count, order, inverse);
     fill_sizes(s, w.first, start, count, inverse, offsets, sizes);
-    TocRead::Table(Toc {
+    Ok(TocRead::Table(Toc {
         count,
         bookmark: start,
         total_byte_size: w.total,
-    })
+    }))
 }
 
 // First entry: the permuted flag; if 0, the sizes, and both orders are the identity; if 1, "order needed" with the next place.
@@ -255,12 +255,12 @@ pub fn read_toc(
     sizes: &mut [u32],
     order: &mut [u32],
     inverse: &mut [u32],
-) -> TocRead
+) -> Result<TocRead, Refusal>
     ensures { Done (first_reading s.now f place (tables offsets.old sizes.old order.old inverse.old))
         (tables offsets.old sizes.old order.old inverse.old)
-        result offsets.new sizes.new order.new inverse.new }
+        (toc_told result) offsets.new sizes.new order.new inverse.new }
 {
-    let judged = judge_place(
+    let count = judge_place(
         s,
         f,
         place,
@@ -268,16 +268,11 @@ pub fn read_toc(
         sizes.len(),
         order.len(),
         inverse.len(),
-    );
-    let g = match judged {
-        Ok(g) => g,
-        Err(refusal) => return TocRead::Refused(refusal),
-    };
-    let count = g.sections;
+    )?;
     let flag = bits::read_bool(s, bits::begin(place));
     let next = flag.next;
     if flag.value != 0 {
-        return TocRead::OrderNeeded(next.at);
+        return Ok(TocRead::OrderNeeded(next.at));
     }
     let none = [0u32; 1];
     read_sizes(s, next, count, false, &none, offsets, sizes, order, inverse)
@@ -293,12 +288,12 @@ pub fn read_toc_with_order(
     sizes: &mut [u32],
     order: &mut [u32],
     inverse: &mut [u32],
-) -> TocRead
+) -> Result<TocRead, Refusal>
     ensures { Done (second_reading s.now f place lent.now (tables offsets.old sizes.old order.old inverse.old))
         (tables offsets.old sizes.old order.old inverse.old)
-        result offsets.new sizes.new order.new inverse.new }
+        (toc_told result) offsets.new sizes.new order.new inverse.new }
 {
-    let judged = judge_place(
+    let count = judge_place(
         s,
         f,
         place,
@@ -306,15 +301,8 @@ pub fn read_toc_with_order(
         sizes.len(),
         order.len(),
         inverse.len(),
-    );
-    let g = match judged {
-        Ok(g) => g,
-        Err(refusal) => return TocRead::Refused(refusal),
-    };
-    let count = g.sections;
-    if let Err(bad) = order::check_order(lent, count) {
-        return TocRead::Refused(bad);
-    }
+    )?;
+    order::check_order(lent, count)?;
     read_sizes(
         s,
         bits::begin(place),

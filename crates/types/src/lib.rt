@@ -5,9 +5,6 @@ ghost use Rattle.std.specs.Prelude.{◌≡◌};
 ghost use Rattle.types.specs.Types.{frame_type_number, encoding_number, blend_mode_number, frame_type_named, encoding_named, blend_mode_named};
 ghost use Rattle.types.specs.Types.{is_normal, is_lf, is_progressive, uses_alpha, noise, patches, splines, use_lf_frame, skip_adaptive_lf_smoothing};
 
-use std::error::Error;
-use std::fmt;
-
 #[derive(Clone, Copy, Debug, PartialEq, Eq)]
 pub enum FrameType {
     RegularFrame,
@@ -122,14 +119,6 @@ impl TryFrom<u32> for BlendMode {
         }
     }
 }
-
-impl fmt::Display for UnknownCase {
-    fn fmt<W: fmt::Write>(&self, f: &mut fmt::Formatter<W>) -> fmt::Result {
-        write!(f, "no case has the number {}", self.0)
-    }
-}
-
-impl Error for UnknownCase {}
 
 impl FrameType {
     pub fn is_normal_frame(self) -> bool

@@ -1,5 +1,5 @@
 -- `hingevale_read_toc_with_order`: too few words, or the second entry.
-use Rattle.toc.specs.Reading.{Tables, tables, second_reading}
+use Rattle.toc.specs.Reading.{toc_told, Tables, tables, second_reading}
 use Rattle.toc.proofs.Accepted.{second_telling}
 use Rattle.export.proofs.Listing.{listed_short, listed}
 use Rattle.export.proofs.contents.hingevale_read_toc_with_order.Goals as goal
@@ -12,5 +12,5 @@ returns c =
     let a = c.args in
     let lent : Tables = tables a.offsets.now a.sizes.now a.order.now a.inverse.now in
     let f = c.frame-f in
-    listed a.s.now _ _ f.ensures (λ f. second_reading a.s.now f a.place a.lent.now lent) lent a.out.now c.if-out-lt3.false c.read_toc_with_order-t.result _ _ _ _ _ _
+    listed a.s.now _ _ f.ensures (λ f. second_reading a.s.now f a.place a.lent.now lent) lent a.out.now c.if-out-lt3.false (toc_told c.read_toc_with_order-t.result) _ _ _ _ _ _
     (second_telling a.s.now f.result a.place lent a.lent.now) c.read_toc_with_order-t.ensures c.give_toc.ensures
