@@ -21,7 +21,6 @@ pub struct Toc {
 // What reading a table comes to: a table, or "order needed" with the place after the flag.
 #[derive(Clone, Copy, Debug, PartialEq, Eq)]
 pub enum TocRead {
-pub enum TocRead {
     Table(Toc),
     OrderNeeded(u64),
 }
