@@ -74,7 +74,8 @@ pub fn refused_at(number: u32, p: u64) -> Read<u32>
     }
 }
 
-// 4 of a field that begins at p: its piece of n bits from q on is cut (both places, as `run` and `cut` of specs/Steps.antt have them). The one place that makes this refusal.
+// 4 of a field that begins at p: its piece of n bits from q on is cut (both places, as `run` and `cut` of specs/Steps.antt have them). The one place
+// that makes this refusal.
 pub fn cut(s: &[u8], p: u64, q: u64, n: Sum) -> Refusal
     ensures { result ≡ cut s.now p (q + whole n) }
 {

@@ -51,7 +51,8 @@ fn fits(v: u64, d: u64, limit: u64) -> bool
     v <= (limit - d) / 10
 }
 
-// Not `parse`, which takes a sign and zeros in front: what is written has to read back. Reads a whole text as a number of at most limit: digits alone, no zero in front of others, no text left over.
+// Reads a whole text as a number of at most limit: digits alone, no zero in front of others, no text left over. Not `parse`, which takes a sign and
+// zeros in front: what is written has to read back.
 pub fn read_number(s: &[u8], limit: u64) -> Option<u64>
     ensures { result ≡ told (parsed limit s.now) }
 {

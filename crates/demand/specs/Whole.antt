@@ -2,7 +2,6 @@
 -- span lies in exactly one section; each colour sample in exactly one clipped group rectangle; the section found for a sample and any pass starts at
 -- the data start plus the sizes of all sections sent before it." Said of what the public functions answer, over the four lent tables as a section
 -- entry left them.
-use Rattle.order.specs.Numbers.{SectionAnswer, SentAnswer}
 use Rattle.std.specs.Prelude.{ℕ, ◌+◌, ◌≤◌, ◌<◌, ◌≡◌, List, ltb, get_or, take}
 use Rattle.bits.specs.Refusals.{pick, none}
 use Rattle.grid.specs.declared.Frame.{Frame}

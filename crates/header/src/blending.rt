@@ -33,8 +33,8 @@ pub struct Blending {
     pub source: u32,
 }
 
-// Which mode decides on `source`: the bundle's own, or one that is given. No Option: `blending .. d` and `has_source d` of specs/Blending.antt are over
-// this record, as over the numbers and Bools beside it.
+// Which mode decides on `source`: the bundle's own, or one that is given. No Option: `blending .. d` and `has_source d` of specs/Blending.antt are
+// over this record, as over the numbers and Bools beside it.
 #[derive(Clone, Copy)]
 pub struct Decider {
     pub own: bool,

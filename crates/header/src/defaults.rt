@@ -82,8 +82,8 @@ fn default_back() -> Back
     }
 }
 
-// The record, and the default of each extra channel in the lent buffers; at: behind the bit that says all default. It answers as the entry does, so that
-// the record isn't copied once more (measured: a tenth of the instructions).
+// The record, and the default of each extra channel in the lent buffers; at: behind the bit that says all default. It answers as the entry does, so
+// that the record isn't copied once more (measured: a tenth of the instructions).
 pub fn give_default(
     s: &[u8],
     at: Cursor,

@@ -8,7 +8,8 @@ use bits::{Choice, Choices, Cursor, Read, read_bits_if, read_bool_if};
 use numbers::{read_u32_if, read_u64_if};
 use types::FrameFlags;
 
-// Kinds and Bools are numbers here, as they are sent: the table of fields (`read (opening ..)`), and what is proved of each of its rows, speak of those.
+// Kinds and Bools are numbers here, as they are sent: the table of fields (`read (opening ..)`), and what is proved of each of its rows, speak of
+// those.
 #[derive(Clone, Copy)]
 pub struct Opening {
     pub all_default: u32,

@@ -89,7 +89,7 @@ pub fn read_enum_if(s: &[u8], c: Cursor, on: bool, d: Choices, n: u32, default: 
     if n <= x.value { refused_at(5, at) } else { x }
 }
 
-// A U64 that begins at p and whose piece of n bits from q on is cut. `cut_at` answers a u32; one for both would need a trait for the 0 beside a fault.
+// A U64 that begins at p and whose piece of n bits from q on is cut. `cut_at` answers a u32; one for both would need a trait for the 0 by a fault.
 fn wide_cut(s: &[u8], p: u64, q: u64, n: u32) -> Read<u64>
     ensures { result ≡ cut_at s.now p (q + n) }
 {

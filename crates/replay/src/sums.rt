@@ -56,7 +56,7 @@ pub fn pattern(x: f32) -> u32
     if x.is_nan() { 0 } else { x.to_bits() }
 }
 
-// One more number into a sum. A flag, no closure: a closure would be a type parameter of `Tally` and of each line that has one; `mixed big` says both.
+// One more number into a sum. A flag, no closure: a closure would be a type parameter of `Tally` and of each line that has one; `mixed big` has both.
 fn mix(big: bool, sum: u64, n: u64) -> u64
     ensures { result ≡ mixed big sum n }
 {

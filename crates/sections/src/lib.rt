@@ -17,7 +17,8 @@ pub enum TocGroupKind {
     GroupPass { pass_idx: u32, group_idx: u32 },
 }
 
-// A kind as numbers, which C and the vectors have of it: All 0, LfGlobal 1, LfGroup 2, HfGlobal 3, GroupPass 4, with its pass and its group (or LF group), else 0.
+// A kind as numbers, which C and the vectors have of it: All 0, LfGlobal 1, LfGroup 2, HfGlobal 3, GroupPass 4, with its pass and its group (or LF
+// group), else 0.
 #[derive(Clone, Copy, Debug, PartialEq, Eq)]
 pub struct KindNumbers {
     pub kind: u32,

@@ -1,10 +1,5 @@
 -- What demand 1 asks of a function: it ends with an answer or with a refusal of the rules, never with both, and a refusal changes nothing that was
 -- lent. Functions.antt asks it of each public function that can refuse.
-use Rattle.layout.specs.Layouts.{LayoutAnswer}
-use Rattle.sections.specs.Lookups.{PlaceAnswer}
-use Rattle.order.specs.Numbers.{SectionAnswer, SentAnswer}
-use Rattle.grid.specs.Groups.{Sized, Touches, Placed, Number}
-use Rattle.grid.specs.Measured.{Measured}
 use Rattle.std.specs.Prelude.{ℕ, ◌/◌, ◌%◌, ◌≤◌, ◌<◌, ◌≡◌, ◌⊎◌, List, [], ◌∷◌, Bool, true, false, ◌&&◌, ◌||◌, eqb, leb, Result, Ok, Err}
 use Rattle.bits.specs.declared.Refusal.{Refusal}
 use Rattle.bits.specs.declared.Cursor.{Cursor}

@@ -37,8 +37,8 @@ fn inverse_into(order: &[u32], count: u32, inverse: &mut [u32])
     }
 }
 
-// The two orders of a table: the lent one and its inverse, or the identity twice. A flag beside the slice: `order_by given lent count` has both, and a
-// clause has no word for the Option of a slice.
+// The two orders of a table: the lent one and its inverse, or the identity twice. A flag beside the slice, as `order_by given
+// lent count` has them.
 pub fn put_orders(given: bool, lent: &[u32], count: u32, order: &mut [u32], inverse: &mut [u32])
     requires { (is_order count (order_by given lent.now count) ≡ true) × (count ≤ length inverse.old) }
     ensures { (order.new ≡ filled (order_by given lent.now count) order.old)
