@@ -26,7 +26,9 @@ use Rattle.grid.specs.declared.Frame.{Frame}
 use Rattle.order.specs.declared.SectionNumber.{SectionNumber}
 use Rattle.sections.specs.declared.TocGroupKind.{TocGroupKind}
 use Rattle.sections.specs.Kinds.{KindAnswer, KindTold, kind_told, kind_of, numbers_of as kind_numbers_of, numbers_in, kind_or_refused}
-use Rattle.toc.specs.Reading.{TocAnswer, Tables, Reading, first_reading, second_reading, Done}
+use Rattle.toc.specs.declared.TocRead.{TocRead}
+use Rattle.toc.specs.declared.TocRead.TheVariants.{Table as ReadTable, OrderNeeded as ReadOrderNeeded}
+use Rattle.toc.specs.Reading.{TocAnswer, Table, OrderNeeded, Refused, toc_told, Tables, Reading, first_reading, second_reading, Done}
 use Rattle.toc.proofs.Accepted.{Telling, same_answer, first_telling, second_telling}
 use Rattle.theorems.proofs.KindsBack.{same_kind}
 use Rattle.listing.specs.Put.{Texted}
@@ -133,19 +135,35 @@ pub numbers_in_once : (f : Frame) (section : SectionNumber) (x y : Result TocGro
     → numbers_in x ≡ kind_or_refused (kind_of f section) → numbers_in y ≡ kind_or_refused (kind_of f section) → x ≡ y
 numbers_in_once f section x y p q = same_answered x y (once p q)
 
--- both section entries, whose answers are told whole
-pub done_once : (r : Reading) → Telling r.answer → (before : Tables) (x y : TocAnswer) (o s p i o' s' p' i' : List ℕ) → Done r before x o s p i → Done r before y o' s' p' i'
+-- what a section entry answers is told whole
+abbrev pub toc_by : TocAnswer → Result TocRead Refusal
+toc_by (Table toc) = Ok (ReadTable toc)
+toc_by (OrderNeeded place) = Ok (ReadOrderNeeded place)
+toc_by (Refused r) = Err r
+
+toc_by_lem : (x : Result TocRead Refusal) → toc_by (toc_told x) ≡ x
+toc_by_lem (Ok (ReadTable toc)) = refl
+toc_by_lem (Ok (ReadOrderNeeded place)) = refl
+toc_by_lem (Err r) = refl
+
+pub same_toc : (x y : Result TocRead Refusal) → toc_told x ≡ toc_told y → x ≡ y
+same_toc x y e = sym (toc_by_lem x) ∙ ap toc_by e ∙ toc_by_lem y
+
+-- both section entries
+pub done_once : (r : Reading) → Telling r.answer → (before : Tables) (x y : Result TocRead Refusal) (o s p i o' s' p' i' : List ℕ)
+    → Done r before (toc_told x) o s p i → Done r before (toc_told y) o' s' p' i'
     → (x ≡ y) × (o ≡ o') × (s ≡ s') × (p ≡ p') × (i ≡ i')
 done_once r k before x y o s p i o' s' p' i' d e =
-    (once (same_answer x r.answer k d.answer) (same_answer y r.answer k e.answer), once d.offsets e.offsets, once d.sizes e.sizes, once d.order e.order, once d.inverse e.inverse)
+    let same : toc_told x ≡ toc_told y = once (same_answer (toc_told x) r.answer k d.answer) (same_answer (toc_told y) r.answer k e.answer) in
+    (same_toc x y same, once d.offsets e.offsets, once d.sizes e.sizes, once d.order e.order, once d.inverse e.inverse)
 
-pub first_once : (s : List ℕ) (f : Frame) (place : ℕ) (t : Tables) (x y : TocAnswer) (o z p i o' z' p' i' : List ℕ)
-    → Done (first_reading s f place t) t x o z p i → Done (first_reading s f place t) t y o' z' p' i'
+pub first_once : (s : List ℕ) (f : Frame) (place : ℕ) (t : Tables) (x y : Result TocRead Refusal) (o z p i o' z' p' i' : List ℕ)
+    → Done (first_reading s f place t) t (toc_told x) o z p i → Done (first_reading s f place t) t (toc_told y) o' z' p' i'
     → (x ≡ y) × (o ≡ o') × (z ≡ z') × (p ≡ p') × (i ≡ i')
 first_once s f place t = done_once (first_reading s f place t) (first_telling s f place t) t
 
-pub second_once : (s : List ℕ) (f : Frame) (place : ℕ) (lent : List ℕ) (t : Tables) (x y : TocAnswer) (o z p i o' z' p' i' : List ℕ)
-    → Done (second_reading s f place lent t) t x o z p i → Done (second_reading s f place lent t) t y o' z' p' i'
+pub second_once : (s : List ℕ) (f : Frame) (place : ℕ) (lent : List ℕ) (t : Tables) (x y : Result TocRead Refusal) (o z p i o' z' p' i' : List ℕ)
+    → Done (second_reading s f place lent t) t (toc_told x) o z p i → Done (second_reading s f place lent t) t (toc_told y) o' z' p' i'
     → (x ≡ y) × (o ≡ o') × (z ≡ z') × (p ≡ p') × (i ≡ i')
 second_once s f place lent t = done_once (second_reading s f place lent t) (second_telling s f place t lent) t
 

@@ -1,6 +1,6 @@
 -- Demand 1, whole: each public function that can refuse, over what it promises, ends with an answer or with one of its numbers. Each part is
 -- named after its function, and is a law of the files of proofs/; `every_function` of proofs/Functions.antt has them all.
-use Rattle.std.specs.Prelude.{ℕ, ◌≡◌, List, Bool, true, false, ltb, length, Result}
+use Rattle.std.specs.Prelude.{ℕ, ◌≡◌, List, Bool, true, false, ltb, length, eqb, Result}
 use Rattle.bits.specs.declared.Refusal.{Refusal}
 use Rattle.bits.specs.declared.Cursor.{Cursor}
 use Rattle.bits.specs.Bits.{bit_count}
@@ -87,8 +87,9 @@ pub record EveryFunction : Type 0 where
   pub judge_header : (n : ℕ) (f : Facts) (name upsampling blending : ℕ) → Refuses of_facts 0 (judged n f name upsampling blending)
   pub read_frame_header : (f : Facts) (s : List ℕ) (r : Result HeaderRead Refusal) (name name' upsampling upsampling' blending blending' : List ℕ)
       → Headed f s r name name' upsampling upsampling' blending blending'
-      → ((header_told r).given ≡ eqb (header_told r).refusal.number 0) × Ends of_header (bit_count s) (header_told r).refusal (header_said zero_header 0 name upsampling blending)
-      (header_said (header_told r).header (header_told r).end name' upsampling' blending')
+      → ((header_told r).given ≡ eqb (header_told r).refusal.number 0)
+      × Ends of_header (bit_count s) (header_told r).refusal (header_said zero_header 0 name upsampling blending)
+        (header_said (header_told r).header (header_told r).end name' upsampling' blending')
   -- texts; `list_frame` with any text
   pub write_refused : (r : Refusal) (before : List ℕ) (a : Result ℕ Refusal) (after : List ℕ)
       → Texted (fitted (refused_text r) before) (refused_text r) before a after → TextEnds of_text a before after
