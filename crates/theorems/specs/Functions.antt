@@ -89,7 +89,7 @@ pub record EveryFunction : Type 0 where
       → Headed f s r name name' upsampling upsampling' blending blending'
       → ((header_told r).given ≡ eqb (header_told r).refusal.number 0)
       × Ends of_header (bit_count s) (header_told r).refusal (header_said zero_header 0 name upsampling blending)
-        (header_said (header_told r).header (header_told r).end name' upsampling' blending')
+      (header_said (header_told r).header (header_told r).end name' upsampling' blending')
   -- texts; `list_frame` with any text
   pub write_refused : (r : Refusal) (before : List ℕ) (a : Result ℕ Refusal) (after : List ℕ)
       → Texted (fitted (refused_text r) before) (refused_text r) before a after → TextEnds of_text a before after
