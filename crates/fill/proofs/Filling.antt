@@ -1,6 +1,6 @@
 -- Values put one after another: what is left to put makes of the slice as it is what all make of the slice as it was. For slices of any type, and
 -- wherever the values come from.
-use Prim.Native.Nat.{ℕ, zero, suc, ◌+◌, ◌-◌, ◌≤◌, ◌<◌, min}
+use Prim.Native.Nat.{ℕ, suc, ◌+◌, ◌-◌, ◌≤◌, ◌<◌, min}
 use native.Mathlib.Omega.{arith}
 use native.Mathlib.Nat.{add-zero}
 use native.Mathlib.Numerals.{add-one}
@@ -10,10 +10,6 @@ use mathlib.Core.List.{List, [], ◌∷◌}
 use native.Mathlib.Decide.{dec_le, ℕ_discrete}
 use lib.ListN.{length, set, get_or, drop, length-set}
 use lib.Seq.{sets, set_out, get_or-set_same, get_or-set_other, drop-cons, drop-length}
-use Rattle.std.proofs.Common.{take, append_assoc}
-use Rattle.std.proofs.lemmas.List.{length-take-le, take_all, drop-drop}
-use Rattle.std.proofs.lemmas.List.Edits.{sets-eq}
-use borrow.Rule.Slice.PartMut.{put_mid}
 
 -- places behind the end are passed over
 pub sets_past : {A : Type 0} (l vs : List A) (k : ℕ) → length l ≤ k → sets l k vs ≡ l
@@ -21,24 +17,6 @@ sets_past l [] k h = refl
 sets_past l (v ∷ vs) k h =
     let same : set l k v ≡ l = set_out l k v h in
     rw same (sets_past l vs (suc k) (omega arith))
-
--- as many values as have room
-pub sets_room : {A : Type 0} (vs l : List A) (at n : ℕ) → length l ≤ at + n → sets l at vs ≡ sets l at (take n vs)
-sets_room [] l at zero h = refl
-sets_room [] l at (suc n) h = refl
-sets_room (v ∷ vs) l at zero h = sets_past l (v ∷ vs) at (omega arith)
-sets_room (v ∷ vs) l at (suc n) h = sets_room vs (set l at v) (suc at) n (omega (arith, length-set l at v))
-
--- a copy into the part of a slice from a place on, as long as the values or as what is left of the slice
-pub copied_in : {A : Type 0} (l vs part : List A) (at n k : ℕ) → at < length l → n ≡ min (length vs) (length l - at) → k ≡ n → part ≡ take n vs
-    → put_mid at k l part ≡ sets l at vs
-copied_in l vs part at n k h en ek ep =
-    let size : length (take n vs) ≡ n = length-take-le n vs (omega arith) in
-    let some : sets l at vs ≡ sets l at (take n vs) = by_cases (dec_le (length vs) n)
-    (λ y. ap (sets l at) (sym (take_all n vs y)))
-    (λ y. sets_room vs l at n (omega arith)) in
-    let behind : drop k (drop at l) ≡ drop (at + length (take n vs)) l = drop-drop k at l ∙ ap (λ (i : ℕ). drop i l) (omega arith) in
-    simp (ep, behind, some, sets-eq (take n vs) l at (omega arith)) (sym (append_assoc (take at l) (take n vs) _))
 
 -- a place outside those that are put keeps its value, and one inside has the new one
 pub sets_outside : {A : Type 0} (d : A) (vs l : List A) (i k : ℕ) → (k < i) ⊎ (i + length vs ≤ k) → get_or (sets l i vs) k d ≡ get_or l k d
@@ -85,6 +63,18 @@ pub record Values {A : Type 0} (before : List A) (at : ℕ) (values : List A) (e
   pub low : i ≤ end
   pub size : length out ≡ length before
 
+module _ {A : Type 0} (before : List A) (at : ℕ) (values : List A) (end : ℕ) where
+  module _ (out : List A) (i : ℕ) (f : Values before at values end out i) where
+    -- all are put, or the slice is full
+    pub values_whole : end ≤ i → out ≡ sets before at values
+    values_whole h =
+        by_cases (dec_le (length values) i)
+        (λ y.
+        let all : i ≡ length values = omega (arith, y, f.end_is, f.low) in
+        let none : drop i values ≡ [] = rw (all, drop-length) in
+        filling_all before at values out (at + i) (rw none at f.filling))
+        (λ y. filling_full before at values out (at + i) (drop i values) f.filling (omega (arith, y, f.end_is, f.low, f.size)))
+
 module _ {A : Type 0} (d : A) (before : List A) (at : ℕ) (values : List A) (end : ℕ) where
   pub values_none : end ≡ min (length values) (length before - at) → Values before at values end before 0
   values_none e = record { filling = rw add-zero (filling_none before at values); end_is = e; low = omega arith; size = refl }
@@ -98,12 +88,6 @@ module _ {A : Type 0} (d : A) (before : List A) (at : ℕ) (values : List A) (en
         let more = filling_more before at values out (at + i) v (drop (i + 1) values) (set out (at + i) v) (rw one at f.filling) refl in
         record { filling = rw next at more; end_is = f.end_is; low = omega arith; size = more.size }
 
-    -- all are put, or the slice is full
+    -- the same, by the law that needs no value for a place outside
     pub values_all : end ≤ i → out ≡ sets before at values
-    values_all h =
-        by_cases (dec_le (length values) i)
-        (λ y.
-        let all : i ≡ length values = omega (arith, y, f.end_is, f.low) in
-        let none : drop i values ≡ [] = rw (all, drop-length) in
-        filling_all before at values out (at + i) (rw none at f.filling))
-        (λ y. filling_full before at values out (at + i) (drop i values) f.filling (omega (arith, y, f.end_is, f.low, f.size)))
+    values_all h = values_whole before at values end out i f h

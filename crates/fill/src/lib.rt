@@ -29,7 +29,10 @@ pub fn fill<T: Copy>(out: &mut [T], at: usize, values: &[T])
         return;
     }
     let n = values.len().min(out.len() - at);
-    out[at..at + n].copy_from_slice(&values[..n]);
+    // By index: `copy_from_slice` takes memmove, which C's archive would need from outside.
+    for i in 0..n {
+        out[at + i] = values[i];
+    }
 }
 
 // 32-bit words as 64-bit words from a place on.

@@ -28,7 +28,7 @@ pub fn count(a: u32, b: u32) -> u64
     (a as u64) * (b as u64)
 }
 
-// Whether the frame has square i of a side: a refused frame has none.
+// Whether the frame of a grid has square i of a side.
 pub fn has(g: Grid, side: u32, i: u32) -> bool
     ensures { result ≡ has (unrefused g) side i }
 {

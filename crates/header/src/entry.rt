@@ -47,7 +47,8 @@ fn blending_info(b: Blending) -> BlendingInfo
     }
 }
 
-// The record of what was read.
+// The record of what was read. In line, so that it is made where it goes and not copied there (docs/PERFORMANCE.md).
+#[inline(always)]
 pub fn assemble(f: Facts, a: Front, b: Back) -> FrameHeader
     requires { Named a b }
     ensures { numbers_of result ≡ header_of f a b }

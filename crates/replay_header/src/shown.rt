@@ -1,4 +1,7 @@
 // Every number of a header, shown where nothing was refused, and all of them in one.
+ghost use Rattle.std.specs.Prelude.{◌≡◌};
+ghost use Rattle.header.specs.Record.{numbers_of, zero_header};
+
 use bits::Refusal;
 use filter::{RestorationFilter, disabled_filter};
 use header::{BlendingInfo, FrameHeader, HeaderRead, Passes};
@@ -148,7 +151,11 @@ pub fn questions(out: &mut Output, n: u32, bits: u64) {
     out.end();
 }
 
-fn zero_header() -> FrameHeader {
+// What stands beside a refusal: the definition's zeros.
+#[tactic(auto, unfolding(header::specs::Record::zero_header))]
+fn zero_header() -> FrameHeader
+    ensures { numbers_of result ≡ zero_header }
+{
     FrameHeader {
         frame_type: FrameType::RegularFrame,
         encoding: Encoding::VarDct,

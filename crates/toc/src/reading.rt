@@ -26,7 +26,9 @@ fn has_room(count: u32, offsets: usize, sizes: usize, order: usize, inverse: usi
     words && orders
 }
 
-// What is refused before anything is read: 2, 8, 9, 10, 3, 11; else how many sections the frame has.
+// What is refused before anything is read: 2, 8, 9, 10, 3, 11; else how many sections the frame has. In line, so that the answer goes through no
+// memory.
+#[inline(always)]
 fn judge_place(
     s: &[u8],
     f: Frame,

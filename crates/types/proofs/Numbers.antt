@@ -1,5 +1,5 @@
--- An enum's numbers and its cases name one another: the number of a case names that case, and where a number names a case, it is that case's number. A
--- number below the count of cases names one.
+-- An enum's numbers and its cases name one another: the number of a case names that case, and where a number names a case, it is that case's
+-- number. A number below the count of cases names one.
 use Rattle.std.specs.Prelude.{ℕ, ◌≡◌, ◌<◌, Ok, IsOk}
 use Rattle.std.proofs.Common.{refl, arith, rules, suc, zero}
 use Rattle.std.proofs.lemmas.Bool.Decides.{nat_tests}
