@@ -1,5 +1,6 @@
 -- Demand 1, whole: the laws of all functions together.
 use Rattle.theorems.specs.Functions.{EveryFunction}
+use Rattle.theorems.proofs.Refusing.{answers_lem}
 use Rattle.theorems.proofs.GridEnds as GridEnds
 use Rattle.theorems.proofs.SectionEnds as SectionEnds
 use Rattle.theorems.proofs.TocEnds as TocEnds
@@ -10,41 +11,42 @@ use Rattle.theorems.proofs.WordEnds as WordEnds
 
 pub every_function : EveryFunction
 every_function = record {
-  measure = GridEnds.measure;
-  sample_width_lem = GridEnds.sample_width_lem;
-  sample_height_lem = GridEnds.sample_height_lem;
-  color_sample_width = GridEnds.color_sample_width;
-  color_sample_height = GridEnds.color_sample_height;
-  group_dim = GridEnds.group_dim;
-  lf_group_dim = GridEnds.lf_group_dim;
-  groups_per_row = GridEnds.groups_per_row;
-  lf_groups_per_row = GridEnds.lf_groups_per_row;
-  num_groups = GridEnds.num_groups;
-  num_lf_groups = GridEnds.num_lf_groups;
-  section_count = GridEnds.section_count;
-  group_rect_lem = GridEnds.group_rect_lem;
-  lf_group_rect = GridEnds.lf_group_rect;
-  group_size_for = GridEnds.group_size_for;
-  lf_group_size_for = GridEnds.lf_group_size_for;
-  lf_group_idx_from_group_idx = GridEnds.lf_group_idx_from_group_idx;
-  group_idx_from_coord = GridEnds.group_idx_from_coord;
-  is_group_collides_region = GridEnds.is_group_collides_region;
-  is_lf_group_collides_region = GridEnds.is_lf_group_collides_region;
-  check_order = SectionEnds.check_order;
-  invert = SectionEnds.invert;
-  sent_of_lem = SectionEnds.sent_of_lem;
-  section_of_lem = SectionEnds.section_of_lem;
-  section_of_kind_lem = SectionEnds.section_of_kind_lem;
-  kind_of_lem = SectionEnds.kind_of_lem;
-  section_of_sample_lem = SectionEnds.section_of_sample_lem;
-  section_at = SectionEnds.section_at;
-  sent_of_section_lem = SectionEnds.sent_of_section_lem;
-  section_of_sent_lem = SectionEnds.section_of_sent_lem;
-  layout_of_lem = SectionEnds.layout_of_lem;
-  section_in_lem = SectionEnds.section_in_lem;
+  measure = λ f. (GridEnds.measure f, answers_lem _ _);
+  sample_width_lem = λ f by. (GridEnds.sample_width_lem f by, answers_lem _ _);
+  sample_height_lem = λ f by. (GridEnds.sample_height_lem f by, answers_lem _ _);
+  color_sample_width = λ f. (GridEnds.color_sample_width f, answers_lem _ _);
+  color_sample_height = λ f. (GridEnds.color_sample_height f, answers_lem _ _);
+  group_dim = λ f. (GridEnds.group_dim f, answers_lem _ _);
+  lf_group_dim = λ f. (GridEnds.lf_group_dim f, answers_lem _ _);
+  groups_per_row = λ f. (GridEnds.groups_per_row f, answers_lem _ _);
+  lf_groups_per_row = λ f. (GridEnds.lf_groups_per_row f, answers_lem _ _);
+  num_groups = λ f. (GridEnds.num_groups f, answers_lem _ _);
+  num_lf_groups = λ f. (GridEnds.num_lf_groups f, answers_lem _ _);
+  section_count = λ f. (GridEnds.section_count f, answers_lem _ _);
+  group_rect_lem = λ f i. (GridEnds.group_rect_lem f i, answers_lem _ _);
+  lf_group_rect = λ f i. (GridEnds.lf_group_rect f i, answers_lem _ _);
+  group_size_for = λ f i. (GridEnds.group_size_for f i, answers_lem _ _);
+  lf_group_size_for = λ f i. (GridEnds.lf_group_size_for f i, answers_lem _ _);
+  lf_group_idx_from_group_idx = λ f i. (GridEnds.lf_group_idx_from_group_idx f i, answers_lem _ _);
+  group_idx_from_coord = λ f x y. (GridEnds.group_idx_from_coord f x y, answers_lem _ _);
+  is_group_collides_region = λ f i region. (GridEnds.is_group_collides_region f i region, answers_lem _ _);
+  is_lf_group_collides_region = λ f i region. (GridEnds.is_lf_group_collides_region f i region, answers_lem _ _);
+  found = GridEnds.found;
+  check_order = λ count l. (SectionEnds.check_order count l, answers_lem _ _);
+  invert = λ count order table. (SectionEnds.invert count order table, answers_lem _ _);
+  sent_of_lem = λ order count section. (SectionEnds.sent_of_lem order count section, answers_lem _ _);
+  section_of_lem = λ inverse count sent. (SectionEnds.section_of_lem inverse count sent, answers_lem _ _);
+  section_of_kind_lem = λ f kind. (SectionEnds.section_of_kind_lem f kind, answers_lem _ _);
+  kind_of_lem = λ f section. (SectionEnds.kind_of_lem f section, SectionEnds.kind_answers f section);
+  section_of_sample_lem = λ f x y pass. (SectionEnds.section_of_sample_lem f x y pass, answers_lem _ _);
+  section_at = λ f offsets sizes section. (SectionEnds.section_at f offsets sizes section, answers_lem _ _);
+  sent_of_section_lem = λ f order section. (SectionEnds.sent_of_section_lem f order section, answers_lem _ _);
+  section_of_sent_lem = λ f inverse sent. (SectionEnds.section_of_sent_lem f inverse sent, answers_lem _ _);
+  layout_of_lem = λ f. (SectionEnds.layout_of_lem f, answers_lem _ _);
+  section_in_lem = λ l x y pass. (SectionEnds.section_in_lem l x y pass, answers_lem _ _);
   read_toc = TocEnds.read_toc;
   read_toc_with_order = TocEnds.read_toc_with_order;
-  judge_header = HeaderEnds.judge_header;
+  judge_header = λ n f name upsampling blending. (HeaderEnds.judge_header n f name upsampling blending, answers_lem _ _);
   read_frame_header = HeaderEnds.read_frame_header;
   write_refused = ListingEnds.write_refused;
   write_order_needed = ListingEnds.write_order_needed;
@@ -67,8 +69,8 @@ every_function = record {
   read_gabor_if = ReaderEnds.read_gabor_if;
   read_epf_if = ReaderEnds.read_epf_if;
   read_restoration_filter_if = ReaderEnds.read_restoration_filter_if;
-  section_named = WordEnds.section_named;
-  section_by_lem = WordEnds.section_by_lem;
+  section_named = λ f kind pass group. (WordEnds.section_named f kind pass group, answers_lem _ _);
+  section_by_lem = λ words x y pass. (WordEnds.section_by_lem words x y pass, answers_lem _ _);
   no_room_lem = WordEnds.no_room_lem;
   no_record_lem = WordEnds.no_record_lem;
   hingevale_measure = WordEnds.hingevale_measure;

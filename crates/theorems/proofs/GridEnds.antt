@@ -5,6 +5,7 @@ use mathlib.Core.Path.{◌≡◌, refl, ◌∙◌, ap}
 use mathlib.Core.List.{List, [], ◌∷◌}
 use mathlib.Core.Bool.{Bool, true, false, ◌&&◌}
 use lib.Dec.{eqb, ltb}
+use Rattle.std.specs.Prelude.{Ok, Err}
 use Rattle.bits.specs.declared.Refusal.{Refusal}
 use Rattle.bits.specs.Refusals.{pick, refusal, none}
 use Rattle.bits.proofs.Reading.{of_both}
@@ -12,7 +13,7 @@ use Rattle.grid.specs.declared.Frame.{Frame}
 use Rattle.grid.specs.declared.Rect.{Rect}
 use Rattle.grid.specs.Measured.{Measured, good_record, zero_size, too_many, laid, refused_grid, grid_of}
 use Rattle.grid.specs.Groups.{has, judge, numbered, touching, placed, sampled, told, rect_of, rect_for, size_of, lf_index_of, index_for, touch_for}
-use Rattle.theorems.specs.Refusing.{Refuses, Ends, NumberEnds, TouchEnds, RectEnds, SizeEnds, GridEnds, of_frame, of_index}
+use Rattle.theorems.specs.Refusing.{Refuses, Ends, Answers, NumberEnds, TouchEnds, RectEnds, SizeEnds, GridEnds, of_frame, of_index, of_found}
 use Rattle.theorems.proofs.Refusing.{refuses_none, refuses_here, refuses_pick, refuses_more, beside}
 
 abbrev Fine : Measured → Type 0
@@ -107,6 +108,12 @@ judged f known =
     refuses_pick of_index 0 (eqb (grid_of f).refusal.number 0) (pick known none (refusal 14 0)) (grid_of f).refusal
     (refuses_pick of_index 0 known none (refusal 14 0) (refuses_none of_index 0 refl) (refuses_here of_index 14 refl refl))
     (refuses_more of_index of_frame 0 0 (grid_of f).refusal refl refl (omega arith) (grid_refuses f))
+
+-- 14 by itself
+pub found : (known : Bool) → Refuses of_found 0 (pick known none (refusal 14 0))
+    × Answers (pick known (Ok (tt {0})) (Err (refusal 14 0))) (pick known none (refusal 14 0))
+found true = (refuses_none of_found 0 refl, refl)
+found false = (refuses_here of_found 14 refl refl, (λ z. omega arith, refl))
 
 -- on any grid, the grid's own or 14
 pub judge_any : (l : List ℕ) (g : Measured) (known : Bool) → Refuses l 0 g.refusal → Refuses l 0 (refusal 14 0) → Refuses l 0 (judge g known)
