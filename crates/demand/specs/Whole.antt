@@ -21,8 +21,8 @@ use Rattle.toc.specs.Sizes.{sent_before}
 use Rattle.toc.specs.Reading.{Tables}
 
 -- ---- what the public functions answer: each name has on its right the definition that the function promises. `kind_of` answers the definition of
--- its name. A function promises its definition by `number_or_refused` and the like: an `Ok` of the value, or an `Err` of the refusal. That it is an `Ok`
--- of the value here, wherever one is asked for, is `Answered` below.
+-- its name. A function promises its definition by `number_or_refused` and the like: an `Ok` of the value, or an `Err` of the refusal. That it is an
+-- `Ok` of the value here, wherever one is asked for, is `Answered` below.
 
 -- `color_sample_width` and `color_sample_height`
 abbrev pub colour_width : Frame → Number
