@@ -6,7 +6,6 @@ use mathlib.Core.List.{List, [], ◌∷◌}
 use mathlib.Core.Bool.{Bool, ◌&&◌}
 use lib.Dec.{eqb, leb, ltb}
 use lib.ListN.{length, get_or}
-use Rattle.std.specs.Prelude.{Result, Ok, Err}
 use Rattle.bits.specs.declared.Refusal.{Refusal}
 use Rattle.bits.specs.Refusals.{pick, refusal, none}
 use Rattle.bits.proofs.Reading.{of_both}
@@ -20,13 +19,12 @@ use Rattle.order.specs.Tables.{inverted, inverse_after}
 use Rattle.order.specs.Numbers.{looked_up, entry_at, sent_of, section_of}
 use Rattle.sections.specs.declared.TocGroupKind.{TocGroupKind}
 use Rattle.sections.specs.declared.TocGroupKind.TheVariants.{All}
-use Rattle.sections.specs.declared.KindNumbers.{KindNumbers}
-use Rattle.sections.specs.Kinds.{numbers_of, has_kind, kind_at, section_answer, section_of_kind, kind_of, numbers_in, kind_or_refused}
+use Rattle.sections.specs.Kinds.{numbers_of, has_kind, kind_at, section_answer, section_of_kind, kind_of}
 use Rattle.sections.specs.Lookups.{has_sample, section_of_sample, place_refusal, place_by, place_of, sent_of_section, section_of_sent}
 use Rattle.layout.specs.declared.Layout.{Layout}
 use Rattle.layout.specs.Layouts.{laid_out, nowhere, layout_of, has_in, number_in, group_in, not_in, section_in}
-use Rattle.theorems.specs.Refusing.{Refuses, Ends, Answers, SectionEnds, SentEnds, KindEnds, PlaceEnds, LayoutEnds, of_frame, of_index, of_index_room, of_layout, of_order, of_inverse, of_entry, of_sent}
-use Rattle.theorems.proofs.Refusing.{refuses_none, refuses_here, refuses_pick, refuses_more, answers_lem, beside}
+use Rattle.theorems.specs.Refusing.{Refuses, Ends, SectionEnds, SentEnds, KindEnds, PlaceEnds, LayoutEnds, of_frame, of_index, of_index_room, of_layout, of_order, of_inverse, of_entry, of_sent}
+use Rattle.theorems.proofs.Refusing.{refuses_none, refuses_here, refuses_pick, refuses_more, beside}
 use Rattle.theorems.proofs.GridEnds.{grid_refuses, judged}
 
 -- ---- orders
@@ -100,15 +98,6 @@ kind_of_lem f section =
           ap (λ (k : TocGroupKind). (numbers_of k).kind ∷ (numbers_of k).pass_idx ∷ (numbers_of k).group_idx ∷ [])
           (beside (judge (grid_of f) known) (kind_at (grid_of f) section.0) All some);
     }
-
--- a kind is promised by its numbers
-kind_by : (a : Result TocGroupKind Refusal) (b : Result KindNumbers Refusal) (r : Refusal) → numbers_in a ≡ b → Answers b r → Answers a r
-kind_by (Ok kind) b r e h = rw (← e) at h
-kind_by (Err x) b r e h = rw (← e) at h
-
-pub kind_answers : (f : Frame) (section : SectionNumber) (a : Result TocGroupKind Refusal) → numbers_in a ≡ kind_or_refused (kind_of f section)
-    → Answers a (kind_of f section).refusal
-kind_answers f section a e = kind_by a (kind_or_refused (kind_of f section)) _ e (answers_lem (kind_of f section).refusal (kind_of f section).numbers)
 
 pub section_at : (f : Frame) (offsets sizes : List ℕ) (section : SectionNumber) → PlaceEnds of_index_room (place_of f offsets sizes section)
 unfolding place_of place_by place_refusal
