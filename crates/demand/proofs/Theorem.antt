@@ -8,24 +8,28 @@ use mathlib.Core.Path.{◌≡◌, sym, ◌∙◌, ap}
 use mathlib.Core.List.{List}
 use mathlib.Core.Logic.{by_cases}
 use lib.ListN.{get_or}
+use Rattle.bits.specs.declared.Refusal.{Refusal}
 use Rattle.bits.specs.Refusals.{none}
+use Rattle.bits.proofs.Answered.{answered_yes, answered_ok}
 use Rattle.grid.specs.declared.Frame.{Frame}
 use Rattle.grid.specs.Sizes.{up, color_width, color_height, group_side}
+use Rattle.grid.specs.Measured.{grid_of}
 use Rattle.grid.specs.Groups.{index_at}
 use Rattle.order.specs.Numbers.{SentAnswer, SectionAnswer}
 use Rattle.order.specs.Tables.{identity, inverse_of}
 use Rattle.order.proofs.Reach.{order_below}
 use Rattle.order.proofs.Inverse.{inverse_order, inverse_there}
 use Rattle.sections.specs.declared.KindNumbers.{KindNumbers}
-use Rattle.sections.specs.Lookups.{PlaceAnswer}
-use Rattle.sections.specs.Kinds.{KindTold}
+use Rattle.sections.specs.Lookups.{section_of_sample}
+use Rattle.sections.specs.Kinds.{KindTold, kind_of}
 use Rattle.toc.specs.declared.Toc.{Toc}
 use Rattle.toc.specs.Reading.{Table, Tables, tables, Reading, first_reading, second_reading, Done}
 use Rattle.toc.proofs.Accepted.{first_accepted, same_answer, first_telling, second_telling}
+use Rattle.c_words.proofs.Plain.{plain_rect}
 use Rattle.theorems.proofs.Orders.{inverse_back}
 use Rattle.theorems.proofs.Tables.{second_accepted}
 use Rattle.theorems.proofs.Demand.{Holds, Demand, first_written, second_written}
-use Rattle.demand.specs.Whole.{colour_width, colour_height, found, place_in, sent_in, section_in, numbered, ThereAndBack, Lies, OneSection, Covers, OneRectangle, Found, Whole}
+use Rattle.demand.specs.Whole.{colour_width, colour_height, group_rect, found, place_in, sent_in, section_in, numbered, ThereAndBack, Lies, OneSection, Covers, OneRectangle, Found, Answered, Whole}
 use Rattle.demand.proofs.Lookups.{Ready, ready, sent_is, section_is, place_is, starts, width_answer, height_answer, some_sample, width_is, height_is, covered, covers, clipped_in}
 
 -- All is no GroupPass
@@ -131,12 +135,50 @@ module _ (f : Frame) (toc : Toc) (due sent : List ℕ) (t : Tables) (r : Ready f
         starts = starts f toc due sent t r (found f x y pass) at.section;
       }
 
+  -- ---- the answers themselves
+
+  -- of what is found the kind is answered, too
+  found_kind : (x y pass : ℕ) → x < (colour_width f).value → y < (colour_height f).value → pass < f.num_passes
+      → (kind_of f (found f x y pass)).refusal.number ≡ 0
+  found_kind x y pass hx hy hp =
+      let wx : x < color_width f = omega (arith, width_is f r.frame) in
+      let wy : y < color_height f = omega (arith, height_is f r.frame) in
+      let at = d.found_where_sent x y pass wx wy hp in
+      by_cases (ℕ_discrete toc.count 1)
+      (λ one. ap (λ (a : KindTold). a.refusal.number) (at.all one))
+      (λ several. ap (λ (a : KindTold). a.refusal.number) (at.group several (grouped x y) (d.one_sample_one_rectangle.inside x y wx wy)))
+
+  answers : Answered f toc t
+  answers = record {
+    width = answered_yes (colour_width f).refusal (colour_width f).value r.frame;
+    height = answered_yes (colour_height f).refusal (colour_height f).value r.frame;
+    rect = λ i e. answered_yes (group_rect f i).refusal (group_rect f i).rect (ap (λ (x : Refusal). x.number) e);
+    rect_only = λ i a e.
+        let w = answered_ok (group_rect f i).refusal (group_rect f i).rect a e in
+        (plain_rect f (grid_of f).side i w.0, w.1);
+    place = λ j l.
+        answered_yes (place_in f t j).refusal (record { offset = (place_in f t j).offset; size = (place_in f t j).size })
+        (ap (λ (a : PlaceAnswer). a.refusal.number) (place_is f toc due sent t r j l));
+    sent = λ j l.
+        answered_yes (sent_in f toc t j).refusal (sent_in f toc t j).sent
+        (ap (λ (a : SentAnswer). a.refusal.number) (sent_is f toc due sent t r j l));
+    section = λ k l.
+        answered_yes (section_in f toc t k).refusal (section_in f toc t k).section
+        (ap (λ (a : SectionAnswer). a.refusal.number) (section_is f toc due sent t r k l));
+    sample = λ x y pass hx hy hp.
+        let at = d.found_where_sent x y pass (omega (arith, width_is f r.frame)) (omega (arith, height_is f r.frame)) hp in
+        answered_yes (section_of_sample f x y pass).refusal (found f x y pass) (ap (λ (x : Refusal). x.number) at.answered);
+    kind = λ x y pass hx hy hp.
+        answered_yes (kind_of f (found f x y pass)).refusal (kind_of f (found f x y pass)).numbers (found_kind x y pass hx hy hp);
+  }
+
   pub whole : Whole f toc due sent t
   whole = record {
     there_and_back = there_back;
     bytes = bytes;
     samples = samples;
     found_where_due = found_due;
+    answered = answers;
     sections = starts f toc due sent t r;
   }
 

@@ -2,26 +2,27 @@
 -- span lies in exactly one section; each colour sample in exactly one clipped group rectangle; the section found for a sample and any pass starts at
 -- the data start plus the sizes of all sections sent before it." Said of what the public functions answer, over the four lent tables as a section
 -- entry left them.
-use Rattle.std.specs.Prelude.{ℕ, ◌+◌, ◌≤◌, ◌<◌, ◌≡◌, List, ltb, get_or, take}
+use Rattle.std.specs.Prelude.{ℕ, ◌+◌, ◌≤◌, ◌<◌, ◌≡◌, List, ltb, get_or, take, Ok}
 use Rattle.bits.specs.Refusals.{pick, none}
 use Rattle.grid.specs.declared.Frame.{Frame}
 use Rattle.grid.specs.declared.Rect.{Rect}
 use Rattle.grid.specs.Sizes.{color_width, color_height}
 use Rattle.grid.specs.Measured.{grid_of}
-use Rattle.grid.specs.Groups.{Placed, Number, told, rect_for}
+use Rattle.grid.specs.Groups.{Placed, Number, told, rect_for, number_or_refused, rect_or_refused}
 use Rattle.order.specs.declared.SectionNumber.{SectionNumber}
 use Rattle.order.specs.declared.SentNumber.{SentNumber}
-use Rattle.order.specs.Numbers.{SentAnswer, SectionAnswer}
+use Rattle.order.specs.Numbers.{SentAnswer, SectionAnswer, sent_or_refused, section_or_refused}
 use Rattle.order.specs.Sums.{sum_to}
 use Rattle.sections.specs.declared.TocGroupKind.TheVariants.{All, GroupPass}
-use Rattle.sections.specs.Kinds.{numbers_of, KindTold, kind_of}
-use Rattle.sections.specs.Lookups.{PlaceAnswer, section_of_sample, place_of, sent_of_section, section_of_sent}
+use Rattle.sections.specs.Kinds.{numbers_of, KindTold, kind_of, kind_or_refused}
+use Rattle.sections.specs.Lookups.{PlaceAnswer, section_of_sample, place_of, place_or_refused, sent_of_section, section_of_sent}
 use Rattle.toc.specs.declared.Toc.{Toc}
 use Rattle.toc.specs.Sizes.{sent_before}
 use Rattle.toc.specs.Reading.{Tables}
 
 -- ---- what the public functions answer: each name has on its right the definition that the function promises. `kind_of` answers the definition of
--- its name.
+-- its name. A function promises its definition by `number_or_refused` and the like: an `Ok` of the value, or an `Err` of the refusal. That it is an
+-- `Ok` of the value here, wherever one is asked for, is `Answered` below.
 
 -- `color_sample_width` and `color_sample_height`
 abbrev pub colour_width : Frame → Number
@@ -146,6 +147,27 @@ pub record Found (f : Frame) (toc : Toc) (sent : List ℕ) (t : Tables) (x y pas
   -- and it starts where it is due
   pub starts : Starts f toc sent t (found f x y pass)
 
+-- ---- the answers themselves, as each function promises them: all that is said above of a value is said of an `Ok` of this value
+
+pub record Answered (f : Frame) (toc : Toc) (t : Tables) : Type 0 where
+  -- `color_sample_width`, `color_sample_height`
+  pub width : number_or_refused (colour_width f) ≡ Ok (colour_width f).value
+  pub height : number_or_refused (colour_height f) ≡ Ok (colour_height f).value
+  -- `group_rect`, of every group that it answers for, and of no other
+  pub rect : (group : ℕ) → (group_rect f group).refusal ≡ none → rect_or_refused (group_rect f group) ≡ Ok (group_rect f group).rect
+  pub rect_only : (group : ℕ) (r : Rect) → rect_or_refused (group_rect f group) ≡ Ok r
+      → ((group_rect f group).refusal ≡ none) × ((group_rect f group).rect ≡ r)
+  -- `section_at`, `sent_of_section` and `section_of_sent`, of every number below the count
+  pub place : (section : SectionNumber) → section.0 < toc.count
+      → place_or_refused (place_in f t section) ≡ Ok (record { offset = (place_in f t section).offset; size = (place_in f t section).size })
+  pub sent : (section : SectionNumber) → section.0 < toc.count → sent_or_refused (sent_in f toc t section) ≡ Ok (sent_in f toc t section).sent
+  pub section : (sent : SentNumber) → sent.0 < toc.count → section_or_refused (section_in f toc t sent) ≡ Ok (section_in f toc t sent).section
+  -- `section_of_sample` of every sample and pass, and `kind_of` what it finds
+  pub sample : (x y pass : ℕ) → x < (colour_width f).value → y < (colour_height f).value → pass < f.num_passes
+      → section_or_refused (section_of_sample f x y pass) ≡ Ok (found f x y pass)
+  pub kind : (x y pass : ℕ) → x < (colour_width f).value → y < (colour_height f).value → pass < f.num_passes
+      → kind_or_refused (kind_of f (found f x y pass)) ≡ Ok (kind_of f (found f x y pass)).numbers
+
 -- ---- demand 3: of a frame, the table that was answered, the order that is due, the sizes as they were sent, and the four lent tables
 
 pub record Whole (f : Frame) (toc : Toc) (due sent : List ℕ) (t : Tables) : Type 0 where
@@ -153,5 +175,7 @@ pub record Whole (f : Frame) (toc : Toc) (due sent : List ℕ) (t : Tables) : Ty
   pub bytes : OneSection f toc t
   pub samples : OneRectangle f
   pub found_where_due : (x y pass : ℕ) → x < (colour_width f).value → y < (colour_height f).value → pass < f.num_passes → Found f toc sent t x y pass
+  -- the functions answer so
+  pub answered : Answered f toc t
   -- every other section starts where it is due, too
   pub sections : (section : SectionNumber) → section.0 < toc.count → Starts f toc sent t section

@@ -135,6 +135,7 @@ every_number = record {
   group_idx_from_coord = ((bad, refl), ((empty, refl), ((wide, refl), ((one, refl), tt))));
   is_group_collides_region = ((bad, refl), ((empty, refl), ((wide, refl), ((one, refl), tt))));
   is_lf_group_collides_region = ((bad, refl), ((empty, refl), ((wide, refl), ((one, refl), tt))));
+  found = ((false, refl), tt);
   check_order = ((([], 65537), refl), ((([], 1), refl), tt));
   invert = ((([], 65537, []), refl), ((([], 1, []), refl), ((([], 1, three), refl), tt)));
   sent_of_lem = ((([], 65537), refl), ((([], 1), refl), (((0 ∷ [], 1), refl), tt)));

@@ -5,15 +5,18 @@ use mathlib.Core.Path.{◌≡◌, refl, ◌∙◌, ap}
 use mathlib.Core.List.{List, [], ◌∷◌}
 use mathlib.Core.Bool.{Bool, true, false, ◌&&◌}
 use lib.Dec.{eqb, ltb}
+use Rattle.std.specs.Prelude.{Result, Ok, Err}
 use Rattle.bits.specs.declared.Refusal.{Refusal}
 use Rattle.bits.specs.Refusals.{pick, refusal, none}
 use Rattle.bits.proofs.Reading.{of_both}
 use Rattle.grid.specs.declared.Frame.{Frame}
+use Rattle.grid.specs.declared.Grid.{Grid}
 use Rattle.grid.specs.declared.Rect.{Rect}
-use Rattle.grid.specs.Measured.{Measured, good_record, zero_size, too_many, laid, refused_grid, grid_of}
-use Rattle.grid.specs.Groups.{has, judge, numbered, touching, placed, sampled, told, rect_of, rect_for, size_of, lf_index_of, index_for, touch_for}
-use Rattle.theorems.specs.Refusing.{Refuses, Ends, NumberEnds, TouchEnds, RectEnds, SizeEnds, GridEnds, of_frame, of_index}
-use Rattle.theorems.proofs.Refusing.{refuses_none, refuses_here, refuses_pick, refuses_more, beside}
+use Rattle.grid.specs.Measured.{Measured, good_record, zero_size, too_many, laid, refused_grid, grid_of, grid_or_refused}
+use Rattle.grid.specs.Groups.{has, judge, judge_answer, numbered, touching, placed, sampled, told, rect_of, rect_for, size_of, lf_index_of, index_for, touch_for}
+use Rattle.grid.proofs.Answered.{judge_told}
+use Rattle.theorems.specs.Refusing.{Refuses, Ends, refusal_in, Answers, NumberEnds, TouchEnds, RectEnds, SizeEnds, GridEnds, of_frame, of_index, of_found}
+use Rattle.theorems.proofs.Refusing.{refuses_none, refuses_here, refuses_pick, refuses_more, answers_lem, beside}
 
 abbrev Fine : Measured → Type 0
 Fine g = Refuses of_frame 0 g.refusal
@@ -108,12 +111,35 @@ judged f known =
     (refuses_pick of_index 0 known none (refusal 14 0) (refuses_none of_index 0 refl) (refuses_here of_index 14 refl refl))
     (refuses_more of_index of_frame 0 0 (grid_of f).refusal refl refl (omega arith) (grid_refuses f))
 
+-- 14 by itself
+pub found : (known : Bool) → Refuses of_found 0 (pick known none (refusal 14 0))
+    × Answers (pick known (Ok (tt {0})) (Err (refusal 14 0))) (pick known none (refusal 14 0))
+found true = (refuses_none of_found 0 refl, refl)
+found false = (refuses_here of_found 14 refl refl, (λ z. omega arith, refl))
+
 -- on any grid, the grid's own or 14
 pub judge_any : (l : List ℕ) (g : Measured) (known : Bool) → Refuses l 0 g.refusal → Refuses l 0 (refusal 14 0) → Refuses l 0 (judge g known)
 unfolding judge
 judge_any l g known own bad =
     refuses_pick l 0 (eqb g.refusal.number 0) (pick known none (refusal 14 0)) g.refusal
     (refuses_pick l 0 known none (refusal 14 0) (refuses_none l 0 own.ruled) bad) own
+
+-- the same of what `judge` answers, whatever grid or refusal it is given: that refusal is handed on; else there is none or 14
+pub judge_any_answer : (l : List ℕ) (g : Result Grid Refusal) (known : Bool) → Refuses l 0 (refusal_in g) → Refuses l 0 (refusal 14 0)
+    → Refuses l 0 (refusal_in (judge_answer g known))
+judge_any_answer l (Ok g) true own bad = own
+judge_any_answer l (Ok g) false own bad = bad
+judge_any_answer l (Err r) known own bad = own
+
+pub judge_given : (g : Grid) (known : Bool) → Answers (judge_answer (Ok g) known) (pick known none (refusal 14 0))
+judge_given g known = (found known).1
+
+pub judge_hands_on : (r : Refusal) (known : Bool) → judge_answer (Err r) known ≡ Err r
+judge_hands_on r known = refl
+
+-- and of what a frame's check answers
+pub judged_answer : (f : Frame) (known : Bool) → Answers (judge_answer (grid_or_refused (grid_of f)) known) (judge (grid_of f) known)
+judged_answer f known = rw (judge_told (grid_of f) known) (answers_lem (judge (grid_of f) known) tt)
 
 rect_ends : (f : Frame) (side i : ℕ) → RectEnds of_index (rect_for (grid_of f) side i)
 unfolding rect_for placed

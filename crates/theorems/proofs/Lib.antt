@@ -7,6 +7,7 @@ pub mod Spots
 pub mod Found
 pub mod Demand
 pub mod Refusing
+pub mod Answers
 pub mod GridEnds
 pub mod SectionEnds
 pub mod Readers

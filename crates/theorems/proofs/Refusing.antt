@@ -6,13 +6,14 @@ use mathlib.Core.Path.{◌≡◌, refl, sym, ◌∙◌}
 use mathlib.Core.List.{List, [], ◌∷◌}
 use mathlib.Core.Bool.{Bool, true, false, ◌&&◌, ◌||◌, false≢true}
 use lib.Dec.{eqb}
-use borrow.Author.Tests.{eqb-true, leb-true}
+use borrow.Author.Tests.{eqb-true, eqb-false, leb-true}
+use Rattle.std.specs.Prelude.{Ok, Err}
 use Rattle.bits.specs.declared.Refusal.{Refusal}
-use Rattle.bits.specs.Refusals.{pick, refusal, none}
+use Rattle.bits.specs.Refusals.{pick, refusal, none, answered}
 use Rattle.bits.proofs.Reading.{picked, of_both}
 use Rattle.order.proofs.Entries.{split}
 use Rattle.grid.proofs.Accepted.{and_parts}
-use Rattle.theorems.specs.Refusing.{among, rules, placed, Refuses}
+use Rattle.theorems.specs.Refusing.{among, rules, placed, Refuses, Answers}
 
 -- whether a list holds all of another
 abbrev pub holds : List ℕ → List ℕ → Bool
@@ -74,3 +75,7 @@ refuses_more l more last end r ok h k d =
 -- beside a refusal
 pub beside : {A : Type 0} (r : Refusal) (v zero : A) → (r.number ≡ 0 → ⊥) → pick (eqb r.number 0) v zero ≡ zero
 beside r v zero some = picked (λ x. x ≡ zero) (eqb r.number 0) v zero (λ e. absurd (some (eqb-true r.number 0 e))) (λ e. refl)
+
+-- every answer that a refusal and a value come to
+pub answers_lem : {A : Type 0} (r : Refusal) (a : A) → Answers (answered r a) r
+answers_lem r a = picked (λ x. Answers x r) (eqb r.number 0) (Ok a) (Err r) (eqb-true r.number 0) (λ e. (eqb-false r.number 0 e, refl))

@@ -14,8 +14,9 @@ use lib.IntN.{ℤ}
 use lib.ListN.{length, set}
 use lib.Seq.{sets}
 use borrow.Author.Tests.{eqb-true, eqb-false}
+use Rattle.std.specs.Prelude.{Result, Ok, Err}
 use Rattle.bits.specs.declared.Refusal.{Refusal}
-use Rattle.bits.specs.Refusals.{pick, refusal}
+use Rattle.bits.specs.Refusals.{pick, refusal, none}
 use Rattle.bits.specs.Bits.{bit_count}
 use Rattle.bits.proofs.Reading.{picked, of_both}
 use Rattle.grid.specs.declared.Frame.{Frame}
@@ -23,8 +24,9 @@ use Rattle.grid.specs.declared.Rect.{Rect}
 use Rattle.grid.specs.Measured.{grid_of}
 use Rattle.grid.specs.Groups.{judge, sampled, rect_for, lf_index_of, index_for, touch_for}
 use Rattle.header.specs.declared.Facts.{Facts}
+use Rattle.header.specs.declared.entry.HeaderRead.{HeaderRead}
 use Rattle.header.specs.Blending.{words}
-use Rattle.header.specs.Entry.{bad_facts, judged, stands, HeaderTold, answered}
+use Rattle.header.specs.Entry.{bad_facts, judged, stands, HeaderTold, answered, told, refused_header}
 use Rattle.order.specs.Numbers.{SectionAnswer}
 use Rattle.order.proofs.Entries.{split}
 use Rattle.sections.specs.Kinds.{section_of_kind, kind_of}
@@ -34,14 +36,14 @@ use Rattle.layout.specs.Layouts.{layout_of, section_in}
 use Rattle.toc.specs.Reading.{TocAnswer, Table, OrderNeeded, Refused, Tables, tables, Reading, refused_read, first_reading, second_reading, written, after}
 use Rattle.listing.specs.Put.{fitted}
 use Rattle.c_words.specs.Status.{status_of, is_early, roomed}
-use Rattle.c_words.specs.Answers.{Answer, refusal_for, Given}
+use Rattle.c_words.specs.Answers.{Answer, refusal_for, Given, words_of, refused_in, written_in, Handed}
 use Rattle.c_words.specs.Records.{section_number, sent_number, number_answer, touch_answer, section_answer, sent_answer, placed_answer, grid_answer, kind_answer, place_answer, kind_named, section_of_numbers}
 use Rattle.c_words.specs.Layouts.{layout_answer, layout_by, section_by}
 use Rattle.c_words.specs.Contents.{toc_status, toc_after, no_room, roomed_reading, Listed}
-use Rattle.c_words.specs.Heading.{Buffers, buffers, HandedOut, HeadRead, record_room, no_record, judged_all, words_after, signed_after, floats_after}
+use Rattle.c_words.specs.Heading.{Buffers, buffers, HandedOut, HandedBy, HeadRead, record_room, no_record, judged_all, words_after, signed_after, floats_after}
 use Rattle.listing_job.specs.Job.{job_text}
 use Rattle.export.specs.Told.{untold, Told}
-use Rattle.theorems.specs.Refusing.{among, rules, Refuses, Ends, Tells, SectionEnds, held, WordEnds, lent, ListLent, TocWordEnds, of_frame, of_index, of_frame_room, of_index_room, of_layout, of_layout_room, of_sent, of_sent_room, of_toc, of_toc_order, of_toc_room, of_facts, of_header, of_text}
+use Rattle.theorems.specs.Refusing.{among, rules, Refuses, Ends, refusal_in, Tells, SectionEnds, held, WordEnds, lent, ListLent, TocWordEnds, of_frame, of_index, of_frame_room, of_index_room, of_layout, of_layout_room, of_sent, of_sent_room, of_toc, of_toc_order, of_toc_room, of_facts, of_header, of_text}
 use Rattle.theorems.proofs.Refusing.{holds, ruled, refuses_none, refuses_here, refuses_pick, refuses_more, beside}
 use Rattle.theorems.proofs.GridEnds as grid
 use Rattle.theorems.proofs.SectionEnds as sections
@@ -92,6 +94,26 @@ given l more a before word after ok h three d g =
       refuses = room l more a.refusal (ltb (length before) (length a.words)) ok h three d;
       either = λ some. g.words ∙ beside r (sets before 0 a.words) before some;
     })
+
+-- and of every answer that such a function is given: the words of an `Ok`, or an `Err` of one of the numbers
+handed_by : {A : Type 0} (words : A → List ℕ) (short : Bool) (l more : List ℕ) (a : Result A Refusal) (before : List ℕ) (word : ℕ) (after : List ℕ)
+    → rules l ≡ true → holds l more ≡ true → among l 3 ≡ true → Refuses more 0 (refusal_in a)
+    → word ≡ status_of (roomed (refused_in (words_of words a)) short) → after ≡ written_in short (words_of words a) before
+    → WordEnds l 0 word before after
+handed_by words true l more (Ok a) before word after ok h three d e w =
+    worded l 0 (refusal 3 0) word before after (omega arith) e (record { refuses = refuses_here l 3 ok three; either = λ some. w })
+handed_by words false l more (Ok a) before word after ok h three d e w =
+    worded l 0 none word before after (omega arith) e (record { refuses = refuses_none l 0 ok; either = λ some. absurd (some refl) })
+handed_by words true l more (Err r) before word after ok h three d e w =
+    worded l 0 (roomed r true) word before after (omega arith) e (record { refuses = room l more r true ok h three d; either = λ some. w })
+handed_by words false l more (Err r) before word after ok h three d e w =
+    worded l 0 (roomed r false) word before after (omega arith) e (record { refuses = room l more r false ok h three d; either = λ some. w })
+
+pub handed : {A : Type 0} (words : A → List ℕ) (n : ℕ) (l more : List ℕ) (a : Result A Refusal) (before : List ℕ) (word : ℕ) (after : List ℕ)
+    → rules l ≡ true → holds l more ≡ true → among l 3 ≡ true → Refuses more 0 (refusal_in a) → Handed n (words_of words a) before word after
+    → WordEnds l 0 word before after
+handed words n l more a before word after ok h three d g =
+    handed_by words (ltb (length before) n) l more a before word after ok h three d g.status g.words
 
 -- a kind by its numbers, a layout by its words, and what is refused where there is no room for a table's or a header's words
 pub section_named : (f : Frame) (kind pass group : ℕ) → SectionEnds of_index (section_of_numbers f kind pass group)
@@ -276,6 +298,26 @@ give_record l last a word w w' i i' r r' big d h =
           let x : w' ≡ w = h.numbers ∙ beside a.refusal (words_after a w) w some in
           let y : i' ≡ i = h.signs ∙ beside a.refusal (signed_after a.header i) i some in
           let z : r' ≡ r = h.reals ∙ beside a.refusal (floats_after a.header.restoration_filter r) r some in
+          rw (x, y, z);
+    })
+
+-- and whatever answer the function is given: a header, or a refusal
+pub record_handed : (l : List ℕ) (last : ℕ) (a : Result HeaderRead Refusal) (word : ℕ) (w w' : List ℕ) (i i' : List ℤ) (r r' : List Float)
+    → last < 2 ^ 56 → Refuses l last (refusal_in a)
+    → HandedBy (told a) word w w' i i' r r' → WordEnds {A = List ℕ × List ℤ × List Float} l last word (w, i, r) (w', i', r')
+unfolding refused_header
+record_handed l last (Ok a) word w w' i i' r r' big d h =
+    worded {A = List ℕ × List ℤ × List Float} l last none word (w, i, r) (w', i', r') big h.status
+    (record { refuses = d; either = λ some. absurd (some refl) })
+record_handed l last (Err e) word w w' i i' r r' big d h =
+    worded {A = List ℕ × List ℤ × List Float} l last e word (w, i, r) (w', i', r') big h.status
+    (record {
+      refuses = d;
+      either =
+          λ some.
+          let x : w' ≡ w = h.numbers in
+          let y : i' ≡ i = h.signs in
+          let z : r' ≡ r = h.reals in
           rw (x, y, z);
     })
 

@@ -30,7 +30,7 @@ use Rattle.c_words.specs.Records.{rect, section_number, sent_number, number_answ
 use Rattle.c_words.specs.Layouts.{layout_answer, section_by}
 use Rattle.c_words.specs.Contents.{no_room, roomed_reading}
 use Rattle.c_words.specs.Heading.{Buffers, no_record, judged_all}
-use Rattle.theorems.specs.Refusing.{of_frame, of_index, of_frame_room, of_index_room, of_layout, of_layout_room, of_order, of_inverse, of_entry, of_sent, of_sent_room, of_toc, of_toc_order, of_toc_room, of_facts, of_header, of_text, of_listing, of_bits, of_enum, of_padding, of_half, of_filter}
+use Rattle.theorems.specs.Refusing.{of_frame, of_index, of_found, of_frame_room, of_index_room, of_layout, of_layout_room, of_order, of_inverse, of_entry, of_sent, of_sent_room, of_toc, of_toc_order, of_toc_room, of_facts, of_header, of_text, of_listing, of_bits, of_enum, of_padding, of_half, of_filter}
 
 -- an input for each of the numbers, where f is what the function refuses of an input
 abbrev pub Comes : {I : Type 0} → (I → Refusal) → List ℕ → Type 0
@@ -65,6 +65,7 @@ pub record EveryNumber : Type 0 where
   pub group_idx_from_coord : Comes (λ (f : Frame). (index_for (grid_of f) 128 0).refusal) of_index
   pub is_group_collides_region : Comes (λ (f : Frame). (touch_for (grid_of f) (grid_of f).side 1 (rect 0 0 1 1)).refusal) of_index
   pub is_lf_group_collides_region : Comes (λ (f : Frame). (touch_for (grid_of f) (grid_of f).lf_side 1 (rect 0 0 1 1)).refusal) of_index
+  pub found : Comes (λ (known : Bool). pick known none (refusal 14 0)) of_found
   -- orders: a table and a count, and the number that is looked up
   pub check_order : Comes (λ (x : List ℕ × ℕ). checked x.1 x.0) of_order
   pub invert : Comes (λ (x : List ℕ × ℕ × List ℕ). inverted x.1 x.0 x.2) of_inverse

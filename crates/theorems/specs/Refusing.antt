@@ -49,6 +49,11 @@ abbrev pub said_in : {A : Type 0} → A → Result A Refusal → A
 said_in beside (Ok a) = a
 said_in beside (Err r) = beside
 
+-- A function that tells refusal r answers a value where its number is 0, and else an `Err` of just r: an `Err` never has number 0.
+abbrev pub Answers : {A : Type 0} → Result A Refusal → Refusal → Type 0
+Answers (Ok a) r = r.number ≡ 0
+Answers (Err e) r = (r.number ≡ 0 → ⊥) × (e ≡ r)
+
 -- the answers of functions that lend nothing: a number, yes or no, a rectangle, a size, a grid, a section number, a sent number, a kind, a place, a
 -- layout
 abbrev pub NumberEnds : List ℕ → Number → Type 0
@@ -151,12 +156,16 @@ pub record Hands (numbers s : List ℕ) (c next : Cursor) : Type 0 where
 
 -- ---- the numbers of each function, in the order in which they are given
 
--- a frame's geometry; where an index, a kind, a sample or a pass is asked for; and where tables are lent, or in C words for the answer
+-- a frame's geometry; where an index, a kind, a sample or a pass is asked for; that question alone; and where tables are lent, or in C words for the
+-- answer
 abbrev pub of_frame : List ℕ
 of_frame = 8 ∷ 9 ∷ 10 ∷ []
 
 abbrev pub of_index : List ℕ
 of_index = 8 ∷ 9 ∷ 10 ∷ 14 ∷ []
+
+abbrev pub of_found : List ℕ
+of_found = 14 ∷ []
 
 abbrev pub of_frame_room : List ℕ
 of_frame_room = 8 ∷ 9 ∷ 10 ∷ 3 ∷ []
