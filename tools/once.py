@@ -1,12 +1,14 @@
 #!/usr/bin/env python3
 """Shows that every public function's promise allows one outcome. Run it at the project's root.
 
-A promise is looked at as text: for the answer and for the final content of each lent `&mut` it has one equation whose right side speaks of what
-was passed alone (no answer, no final content), so that the law `once` (crates/bits/proofs/Once.antt) gives equality; or it is a record of such
-equations, for which a law named after it (`done_once` for `Done`) stands in some crate's proofs and is proved by `once`. An equation for what an
-answer tells (`numbers_in result`) counts as one for the answer where a law named after it says so (`numbers_in_once`). Functions of an input or
-an output are counted apart: no clause fixes whether a reader or a writer fails. Prints what it found, every function for which none holds, and every
-function that docs/PROMISES.md doesn't name.
+A public function is a `pub fn` that a crate hands out, alone or as a method of a type, and in each impl a method of a trait that the crate hands out
+or std has. A promise is looked at as text: for the answer and for the final content of each lent `&mut` it has one equation whose right side speaks
+of what was passed alone (no answer, no final content), so that the law `once` (crates/bits/proofs/Once.antt) gives equality; or it is a record of
+such equations, for which a law named after it (`done_once` for `Done`) stands in some crate's proofs and is proved by `once`. An equation for what an
+answer tells (`numbers_in result`) counts as one for the answer where a law named after it says so (`numbers_in_once`). A method that states no
+promise has its trait's: of `From` and `TryFrom` what the impl's ghost member (`from_gives`) says of the answer; of a trait of the crate the trait's
+own, where the impl gives each ghost member that it names. Functions of an input or an output are counted apart: no clause fixes whether a reader or a
+writer fails. Prints what it found, every function for which none holds, and every function that docs/PROMISES.md doesn't name.
 """
 import glob
 import os
@@ -15,25 +17,49 @@ import sys
 
 
 def public(crate):
-    """The names that a crate hands out, and each `pub fn` with its module."""
+    """Each function that a crate hands out: its name, what it lends, whether it answers, and its promise."""
     lib = open(f'crates/{crate}/src/lib.rt', encoding='utf-8').read()
     shown = set(re.findall(r'^pub use (\w+)::(\w+);', lib, re.M))
     for module, names in re.findall(r'^pub use (\w+)::\{([^}]*)\};', lib, re.M):
         shown |= {(module, name) for name in re.findall(r'\w+', names)}
-    for path in sorted(glob.glob(f'crates/{crate}/src/*.rt')):
+    types = {name for _, name in shown} | set(re.findall(r'^pub (?:struct|enum|trait) (\w+)', lib, re.M))
+    files = sorted(glob.glob(f'crates/{crate}/src/*.rt'))
+    traits = {}
+    for path in files:
+        for m in re.finditer(r'^(?:pub )?trait (\w+).*?^\}', open(path, encoding='utf-8').read(), re.M | re.S):
+            traits[m.group(1)] = m.group(0)
+    for path in files:
         module = os.path.basename(path)[:-3]
         text = open(path, encoding='utf-8').read()
-        for m in re.finditer(r'^ *pub (extern "C" )?fn (\w+)', text, re.M):
+        for m in re.finditer(r'^pub (extern "C" )?fn (\w+)', text, re.M):
             if module == 'lib' or m.group(1) or (module, m.group(2)) in shown:
-                yield m.group(2), text[m.start():]
+                yield m.group(2), *parts(text[m.start():])
+        for m in re.finditer(r'^impl(?:<[^>]*>)? (?:(\w+)(?:<\w+>)? for )?(\w+)(?:<[^>]*>)? \{$.*?^\}', text, re.M | re.S):
+            trait, kind, block = m.group(1), m.group(2), m.group(0)
+            if trait in traits and trait not in types or not trait and kind not in types:
+                continue
+            for f in re.finditer(r'^    (?:pub )?fn (\w+)' if trait else r'^    pub fn (\w+)', block, re.M):
+                lent, answers, promise = parts(block[f.start():], kind)
+                yield f.group(1), lent, answers, promise or given(traits.get(trait), block, f.group(1))
 
 
-def parts(text):
-    """The parameters, whether there is an answer, and the promise of a function's text."""
+def given(trait, block, name):
+    """The promise of an impl's method that states none: its trait's."""
+    if not trait:
+        m = re.search(rf'ghost {name}_gives = \{{ λ \w+ (\w+)\. (.*) \}};', block)
+        return re.sub(rf'(?<![\w.]){m.group(1)}(?!\w)', 'result', m.group(2)) if m else ''
+    _, _, promise = parts(trait[trait.index(f'fn {name}'):])
+    members = [n for n in re.findall(r'ghost (\w+):', trait) if re.search(rf'\b{n}\b', promise)]
+    return promise if all(f'ghost {n} = ' in block for n in members) else ''
+
+
+def parts(text, kind=''):
+    """What a function lends, whether there is an answer, and its promise."""
     body = text.index('{') if '{' in text else len(text)
+    own = ['self'] if '&mut self' in text[:body] else []
     if 'ensures' not in text[:body]:
-        return re.findall(r'(\w+): &mut', text[:body]), '->' in text[:body], ''
-    if 'io::Result' in text[:body] or 'Output<' in text[:body] and '->' not in text[:body]:
+        return own + re.findall(r'(\w+): &mut', text[:body]), '->' in text[:body], ''
+    if kind == 'Output' or 'io::Result' in text[:body] or 'Output<' in text[:body] and '->' not in text[:body] and not own:
         return [], False, ''
     head, clause = text[:text.index('ensures')], text[text.index('ensures'):]
     depth, end = 0, clause.index('{')
@@ -42,7 +68,7 @@ def parts(text):
         if depth == 0:
             break
     inside = clause[clause.index('{') + 1:end].strip()
-    return re.findall(r'(\w+): &mut (?!Output<)', head), '->' in head, ' '.join(inside.split())
+    return own + re.findall(r'(\w+): &mut (?!Output<)', head), '->' in head, ' '.join(inside.split())
 
 
 def conjuncts(text):
@@ -77,10 +103,9 @@ def main():
     for crate in crates:
         if not os.path.exists(f'crates/{crate}/src/lib.rt'):
             continue
-        for name, text in public(crate):
+        for name, lent, answers, promise in public(crate):
             if not re.search(rf'^\|[^|]*`{name}[`(]', page, re.M):
                 wrong.append(f'{crate}::{name}: not in docs/PROMISES.md')
-            lent, answers, promise = parts(text)
             due = {f'{p}.new' for p in lent} | ({'result'} if answers else set())
             found = set()
             for c in conjuncts(promise):

@@ -8,6 +8,10 @@ use Rattle.replay.specs.declared.sums.Tally.{Tally}
 abbrev pub mixed : Bool → ℕ → ℕ → ℕ
 mixed big sum n = cond big (sum % 4294967291 * 1000003 + n % 4294967291) (sum % 1000003 * 31 + n % 281474976710656)
 
+-- a number counts for itself
+abbrev pub own : ℕ → ℕ
+own n = n
+
 -- the bits of a value, 0 for what is no number
 abbrev pub pattern : Float → ℕ
 pattern x = cond (eq x x) (to_bits binary32 x) 0

@@ -8,5 +8,5 @@ mod words;
 
 pub use lines::{Output, buffered, refusal_of};
 pub use sums::{Summand, Tally, pattern, sum};
-pub use tables::{BYTES, WORDS, put_words, reversed, room, table};
+pub use tables::{BYTES, WORDS, byte_table, put_words, reversed, room, section_table, table};
 pub use words::{four, frame, long, size, word};

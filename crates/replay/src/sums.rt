@@ -2,7 +2,7 @@
 // are and leaves a number of 52 bits.
 ghost use Rattle.std.specs.Prelude.{◌≡◌, ℕ};
 ghost use Rattle.replay.specs.Outputs.{shown_by, Gains};
-ghost use Rattle.replay.specs.Sums.{mixed, pattern, summed_by, tallied};
+ghost use Rattle.replay.specs.Sums.{mixed, own, pattern, summed_by, tallied};
 
 use crate::lines::Output;
 use std::io::Write;
@@ -16,7 +16,7 @@ pub trait Summand: Copy {
 }
 
 impl Summand for u8 {
-    ghost number_of = { λ byte. byte };
+    ghost number_of = { λ byte. own byte };
 
     fn number(self) -> u64 {
         u64::from(self)
@@ -24,7 +24,7 @@ impl Summand for u8 {
 }
 
 impl Summand for u32 {
-    ghost number_of = { λ word. word };
+    ghost number_of = { λ word. own word };
 
     fn number(self) -> u64 {
         u64::from(self)
@@ -32,7 +32,7 @@ impl Summand for u32 {
 }
 
 impl Summand for u64 {
-    ghost number_of = { λ long. long };
+    ghost number_of = { λ long. own long };
 
     fn number(self) -> u64 {
         self

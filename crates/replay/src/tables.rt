@@ -18,6 +18,20 @@ pub fn table<T: Copy, const N: usize>(value: T) -> [T; N]
     [value; N]
 }
 
+// The table of numbers that the programs lend; its promise says how long.
+pub fn section_table<T: Copy>(value: T) -> [T; WORDS]
+    ensures { result ≡ replicate 65540 value }
+{
+    table(value)
+}
+
+// The table of bytes that they lend, the same.
+pub fn byte_table(byte: u8) -> [u8; BYTES]
+    ensures { result ≡ replicate 270000 byte }
+{
+    table(byte)
+}
+
 // How much is lent of a slice: as much as is asked for, as far as it goes.
 pub fn room<T>(xs: &[T], n: u32) -> usize
     ensures value { result ≡ min n (length xs.now) }

@@ -67,7 +67,7 @@ fn one(
     tables(out, s, h.frame, h.end, None);
     let m = replay::word(r, 0);
     if 0 < m {
-        let mut lent: [u32; WORDS] = replay::table(0);
+        let mut lent: [u32; WORDS] = replay::section_table(0);
         replay::put_words(&mut lent, numbers, 0, m);
         let n = replay::room(&lent, m);
         let place = u64::from(replay::word(r, 20));
@@ -116,10 +116,10 @@ fn begun(out: &mut Output, refusal: Refusal, end: u64, f: Frame) -> Beginning {
 
 // The first entry where no order is lent, else the second.
 fn tables(out: &mut Output, s: &[u8], f: Frame, place: u64, lent: Option<&[u32]>) {
-    let mut offsets: [u64; WORDS] = replay::table(0);
-    let mut sizes: [u32; WORDS] = replay::table(0);
-    let mut order: [u32; WORDS] = replay::table(0);
-    let mut inverse: [u32; WORDS] = replay::table(0);
+    let mut offsets: [u64; WORDS] = replay::section_table(0);
+    let mut sizes: [u32; WORDS] = replay::section_table(0);
+    let mut order: [u32; WORDS] = replay::section_table(0);
+    let mut inverse: [u32; WORDS] = replay::section_table(0);
     let t = match lent {
         None => toc::read_toc(
             s,

@@ -22,8 +22,8 @@ fn main(rt: HostRuntime) -> io::Result<()> {
 }
 
 fn record(from: &mut Stdin, lines: &mut Output, r: &[u8]) -> io::Result<()> {
-    let mut input: [u8; BYTES] = replay::table(0);
-    let mut out: [u8; BYTES] = replay::table(7);
+    let mut input: [u8; BYTES] = replay::byte_table(0);
+    let mut out: [u8; BYTES] = replay::byte_table(7);
     let [n, given, m, _] = replay::four(r, 0);
     let given = replay::room(&input, given);
     input::read_full(from, &mut input[..given])?;

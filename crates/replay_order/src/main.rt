@@ -22,8 +22,8 @@ fn main(rt: HostRuntime) -> io::Result<()> {
 
 fn record(out: &mut Output, r: &[u8]) {
     let [made, length, count, room] = replay::four(r, 0);
-    let mut entries: [u32; WORDS] = replay::table(0);
-    let mut table: [u32; WORDS] = replay::table(7);
+    let mut entries: [u32; WORDS] = replay::section_table(0);
+    let mut table: [u32; WORDS] = replay::section_table(7);
     make(r, made, length, &mut entries);
     let n = replay::room(&entries, length);
     let m = replay::room(&table, room);

@@ -27,8 +27,8 @@ fn main(rt: HostRuntime) -> io::Result<()> {
 }
 
 fn record(out: &mut Output, r: &[u8; 256]) {
-    let mut bytes: [u8; BYTES] = replay::table(0);
-    let mut lent: [u32; WORDS] = replay::table(0);
+    let mut bytes: [u8; BYTES] = replay::byte_table(0);
+    let mut lent: [u32; WORDS] = replay::section_table(0);
     fill::fill(&mut bytes, 0, &r[128..192]);
     ruled(replay::word(r, 44), &mut bytes);
     make_order(r, &mut lent);
@@ -62,10 +62,10 @@ fn make_order(r: &[u8], lent: &mut [u32]) {
 
 fn with_tables(out: &mut Output, r: &[u8], s: &[u8], lent: &[u32]) {
     let [a, b, c, d] = replay::four(r, 48);
-    let mut offsets: [u64; WORDS] = replay::table(7);
-    let mut sizes: [u32; WORDS] = replay::table(7);
-    let mut order: [u32; WORDS] = replay::table(7);
-    let mut inverse: [u32; WORDS] = replay::table(7);
+    let mut offsets: [u64; WORDS] = replay::section_table(7);
+    let mut sizes: [u32; WORDS] = replay::section_table(7);
+    let mut order: [u32; WORDS] = replay::section_table(7);
+    let mut inverse: [u32; WORDS] = replay::section_table(7);
     let a = replay::room(&offsets, a);
     let b = replay::room(&sizes, b);
     let c = replay::room(&order, c);
